@@ -1,0 +1,5 @@
+pub mod RangeLaws
+pub mod BufferLaws
+pub mod StoreLaws
+pub mod Keeps
+pub mod Examples

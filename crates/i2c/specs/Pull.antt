@@ -1,0 +1,35 @@
+-- The part's pull changes on SCL falls. The ninth clock acknowledges; a byte that goes out shows its bits, most significant
+-- first, by pulling at a 0.
+use Prim.Native.Nat.{ℕ}
+use mathlib.Core.Bool.{Bool, true, false, cond, not}
+use mathlib.Core.List.{List}
+use lib.Dec.{ltb}
+use lib.ListN.{getD}
+use Rattle.parts.specs.declared.part.Part.{Part}
+use Rattle.serial.specs.Bits.{bitAt}
+use Rattle.i2c.specs.declared.word.DeviceWord.{DeviceWord}
+use Rattle.i2c.specs.declared.word.DeviceWord.the-variants.{ReadWord, WriteWord, OtherWord}
+use Rattle.i2c.specs.declared.phase.Field.{Field}
+use Rattle.i2c.specs.declared.phase.Field.the-variants.{Word, HighByte, LowByte, Data}
+use Rattle.i2c.specs.declared.phase.Phase.{Phase}
+use Rattle.i2c.specs.declared.phase.Phase.the-variants.{Rest, Deaf, Taking, Sending}
+use Rattle.i2c.specs.Word.{wordOf}
+
+abbrev pub ours : DeviceWord → Bool
+ours (ReadWord a16) = true
+ours (WriteWord a16) = true
+ours OtherWord = false
+
+-- a byte that came in as v: an own word, address and data bytes are acknowledged; another word gets no acknowledge
+abbrev pub acknowledges : Part → ℕ → Field → ℕ → Bool
+acknowledges p pins Word v = ours (wordOf p pins v)
+acknowledges p pins (HighByte a16) v = true
+acknowledges p pins (LowByte a16 high) v = true
+acknowledges p pins (Data a) v = true
+
+-- whether the part pulls after a fall of SCL
+abbrev pub pullsAfter : Part → ℕ → List ℕ → Phase → Bool
+pullsAfter p pins m Rest = false
+pullsAfter p pins m Deaf = false
+pullsAfter p pins m (Taking f n v) = cond (ltb n 8) false (acknowledges p pins f v)
+pullsAfter p pins m (Sending a n) = cond (ltb n 8) (not (bitAt (getD m a 0) n)) false

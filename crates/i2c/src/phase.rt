@@ -1,0 +1,22 @@
+// What an I2C part is waiting for, one case for each phase with that phase's own numbers.
+
+// The byte that comes in.
+pub enum Field {
+    Word,
+    // the first address byte, after a write word with this A16
+    HighByte { a16: bool },
+    // the second address byte, after the first
+    LowByte { a16: bool, high: u8 },
+    Data { address: u32 },
+}
+
+pub enum Phase {
+    // after STOP or power on: waits for START
+    Rest,
+    // between START and STOP with nothing to do: waits for START or STOP
+    Deaf,
+    // count rises of nine are in, whose first eight bits make value
+    Taking { field: Field, count: u8, value: u32 },
+    // the byte at an address goes out, count rises of nine are in
+    Sending { address: u32, count: u8 },
+}

@@ -1,0 +1,30 @@
+-- The numbers of document 01 for each refusal and each answer.
+use Prim.Native.Nat.{ℕ}
+use mathlib.Core.Bool.{Bool, true, false}
+use Rattle.parts.specs.declared.answer.Answer.{Answer}
+use Rattle.parts.specs.declared.answer.Answer.the-variants.{Low, High, HighZ}
+use Rattle.parts.specs.declared.refusal.Refusal.{Refusal}
+use Rattle.parts.specs.declared.refusal.Refusal.the-variants.{ModelRange, StateRange, MemoryLength, UnknownKind, Truncated, FieldRange, Unpowered, Powered, Unexpected}
+
+-- 'Numbers given back', in the order in which they are tested
+abbrev pub refusalNumber : Refusal → ℕ
+refusalNumber ModelRange = 1
+refusalNumber StateRange = 2
+refusalNumber MemoryLength = 3
+refusalNumber UnknownKind = 4
+refusalNumber Truncated = 5
+refusalNumber FieldRange = 6
+refusalNumber Unpowered = 7
+refusalNumber Powered = 8
+refusalNumber Unexpected = 9
+
+-- the answer is 0 (low), 1 (high) or 2 (nothing driven)
+abbrev pub answerNumber : Answer → ℕ
+answerNumber Low = 0
+answerNumber High = 1
+answerNumber HighZ = 2
+
+-- the answer that drives a bit
+abbrev pub levelOf : Bool → Answer
+levelOf true = High
+levelOf false = Low

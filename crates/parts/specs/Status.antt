@@ -1,0 +1,29 @@
+-- The status register: bit 7 SRWD, 3 BP1, 2 BP0, 1 WEL, rest 0.
+use Prim.Native.Nat.{ℕ, _+_, _*_}
+use mathlib.Core.Bool.{Bool, true, false}
+use lib.ListN.{getD}
+use Rattle.parts.specs.declared.part.Part.{Part}
+use Rattle.parts.specs.declared.status.Status.{Status}
+
+-- 1 for a bit that is set
+abbrev pub bit : Bool → ℕ
+bit true = 1
+bit false = 0
+
+abbrev pub cleared : Status
+cleared = record { srwd = false; bp1 = false; bp0 = false; wel = false }
+
+-- the byte that RDSR shows
+abbrev pub statusByte : Status → ℕ
+statusByte s = 128 * bit (s .srwd) + 8 * bit (s .bp1) + 4 * bit (s .bp0) + 2 * bit (s .wel)
+
+-- BP1 BP0 as a number
+abbrev pub blockBits : Status → ℕ
+blockBits s = 2 * bit (s .bp1) + bit (s .bp0)
+
+-- protected ranges, each to the top: the first protected address (the size itself for 00, which protects nothing)
+unfoldable pub protectedStart : Status → Part → ℕ
+protectedStart s p = getD (p .starts) (blockBits s) 0
+
+abbrev pub withWel : Status → Bool → Status
+withWel s w = record { srwd = s .srwd; bp1 = s .bp1; bp0 = s .bp0; wel = w }

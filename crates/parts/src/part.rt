@@ -1,0 +1,113 @@
+// The five parts: the one constant table that every layer reads.
+ghost use mathlib.Core.Path.{_≡_};
+ghost use Prim.Native.Nat.{_<_};
+ghost use Rattle.parts.specs.Table.{partOf};
+
+pub enum Bus {
+    Spi,
+    I2c,
+}
+
+pub struct Part {
+    pub bus: Bus,
+    // bytes of memory
+    pub size: u32,
+    // bits of an address
+    pub width: u8,
+    // whether the device address word carries A16
+    pub a16: bool,
+    // settings of the address pins
+    pub pins: u8,
+    // commands besides the six
+    pub fstrd: bool,
+    pub rdid: bool,
+    pub sleep: bool,
+    // what RDID shows
+    pub identity: [u8; 3],
+    // whether SRWD, BP1 and BP0 survive power loss
+    pub saved: bool,
+    // the first protected address for BP1 BP0 = 00, 01, 10, 11
+    pub starts: [u32; 4],
+}
+
+// In the order of the part numbers.
+pub const PARTS: [Part; 5] = [
+    // MR45V032A, sheet 003
+    Part {
+        bus: Bus::Spi,
+        size: 4096,
+        width: 16,
+        a16: false,
+        pins: 1,
+        fstrd: false,
+        rdid: false,
+        sleep: false,
+        identity: [0, 0, 0],
+        saved: false,
+        starts: [4096, 0xc00, 0x800, 0],
+    },
+    // MR45V100A, sheet 000
+    Part {
+        bus: Bus::Spi,
+        size: 131072,
+        width: 24,
+        a16: false,
+        pins: 1,
+        fstrd: true,
+        rdid: true,
+        sleep: true,
+        identity: [0xae, 0x83, 0x9],
+        saved: true,
+        starts: [131072, 0x18000, 0x10000, 0],
+    },
+    // MR45V200B, sheet 004
+    Part {
+        bus: Bus::Spi,
+        size: 262144,
+        width: 24,
+        a16: false,
+        pins: 1,
+        fstrd: false,
+        rdid: true,
+        sleep: false,
+        identity: [0xae, 0x83, 0x1a],
+        saved: true,
+        starts: [262144, 0x30000, 0x20000, 0],
+    },
+    // MR44V064B, sheet 001
+    Part {
+        bus: Bus::I2c,
+        size: 8192,
+        width: 16,
+        a16: false,
+        pins: 8,
+        fstrd: false,
+        rdid: false,
+        sleep: false,
+        identity: [0, 0, 0],
+        saved: false,
+        starts: [8192, 8192, 8192, 8192],
+    },
+    // MS85RC1MTY, sheet 002
+    Part {
+        bus: Bus::I2c,
+        size: 131072,
+        width: 17,
+        a16: true,
+        pins: 4,
+        fstrd: false,
+        rdid: false,
+        sleep: false,
+        identity: [0, 0, 0],
+        saved: false,
+        starts: [131072, 131072, 131072, 131072],
+    },
+];
+
+// The part of a number below 5.
+pub fn part_of(number: usize) -> Part
+    requires { ⌜ number < 5 ⌝ }
+    ensures { λ r. ⌜ r ≡ partOf number ⌝ }
+{
+    PARTS[number]
+}

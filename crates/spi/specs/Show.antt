@@ -1,0 +1,37 @@
+-- What SO shows. At a counted fall after n rises, n at least h, the answer becomes bit 7 - ((n - h) mod 8) of byte number
+-- (n - h) div 8: a phase that shows a source has counted the rises since the h-th.
+use Prim.Native.Nat.{ℕ}
+use mathlib.Core.Bool.{cond}
+use mathlib.Core.List.{List}
+use lib.Dec.{ltb}
+use lib.ListN.{getD}
+use Rattle.parts.specs.declared.answer.Answer.{Answer}
+use Rattle.parts.specs.declared.answer.Answer.the-variants.{Low, High, HighZ}
+use Rattle.parts.specs.declared.part.Part.{Part}
+use Rattle.parts.specs.declared.status.Status.{Status}
+use Rattle.parts.specs.Numbers.{levelOf}
+use Rattle.parts.specs.Status.{statusByte}
+use Rattle.serial.specs.Bits.{bitAt}
+use Rattle.spi.specs.declared.levels.Levels.{Levels}
+use Rattle.spi.specs.declared.phase.Source.{Source}
+use Rattle.spi.specs.declared.phase.Source.the-variants.{Memory, Register, Identity}
+use Rattle.spi.specs.declared.phase.Phase.{Phase}
+use Rattle.spi.specs.declared.phase.Phase.the-variants.{Rest, Deaf, Taking, Showing, Waiting}
+
+-- bit 7 - k of what a source shows; RDID shows three bytes, then nothing (house)
+abbrev pub shownBit : Part → Status → List ℕ → Source → ℕ → Answer
+shownBit p st m (Memory a) k = levelOf (bitAt (getD m a 0) k)
+shownBit p st m Register k = levelOf (bitAt (statusByte st) k)
+shownBit p st m (Identity i) k = cond (ltb i 3) (levelOf (bitAt (getD (p .identity) i 0) k)) HighZ
+
+-- what is shown after a counted fall, where old was before
+abbrev pub afterFall : Part → Status → List ℕ → Phase → Answer → Answer
+afterFall p st m Rest old = old
+afterFall p st m Deaf old = old
+afterFall p st m (Taking f n v) old = old
+afterFall p st m (Showing s k) old = shownBit p st m s k
+afterFall p st m (Waiting a) old = old
+
+-- held or unselected, the answer is 2; after a hold the earlier bit is shown again
+abbrev pub answerAt : Levels → Answer → Answer
+answerAt l shown = cond (l .cs) HighZ (cond (l .hold) shown HighZ)

@@ -1,0 +1,75 @@
+// What WRITE stores.
+ghost use mathlib.Core.Path.{_≡_};
+ghost use Prim.Native.Nat.{_<_, _^_};
+ghost use Rattle.spi.specs.Store.{permitted, dataWrite, fieldWrite, riseWrite};
+ghost use Rattle.spi.specs.Ranges.{TakingIn, PhaseIn};
+use crate::phase::Field;
+use crate::phase::Phase;
+use parts::part::Part;
+use parts::status::Status;
+use serial::write::Write;
+
+// A whole data byte of WRITE, if WEL is 1 and its address is not protected.
+fn permit(part: Part, status: Status, address: u32, value: u8) -> Write
+    ensures { λ r. ⌜ r ≡ permitted part status address value ⌝ }
+{
+    if status.wel {
+        if address < status.protected_start(part) {
+            Write::Byte { address, value }
+        } else {
+            Write::Nothing
+        }
+    } else {
+        Write::Nothing
+    }
+}
+
+// One bit more of a data byte.
+fn data_write(part: Part, status: Status, address: u32, count: u8, value: u32, si: bool) -> Write
+    requires { ⌜ (count < 8) × (value < 2 ^ count) ⌝ }
+    ensures { λ r. ⌜ r ≡ dataWrite part status address count value si ⌝ }
+{
+    if count < 7 {
+        Write::Nothing
+    } else {
+        permit(
+            part,
+            status,
+            address,
+            serial::bits::shift_in(value, si) as u8,
+        )
+    }
+}
+
+fn field_write(part: Part, status: Status, field: Field, count: u8, value: u32, si: bool) -> Write
+    requires { ⌜ TakingIn part field count value ⌝ }
+    ensures { λ r. ⌜ r ≡ fieldWrite part status field count value si ⌝ }
+{
+    match field {
+        Field::Opcode => Write::Nothing,
+        Field::ReadAddress => Write::Nothing,
+        Field::FastAddress => Write::Nothing,
+        Field::WriteAddress => Write::Nothing,
+        Field::Dummy { address: _ } => Write::Nothing,
+        Field::Data { address, whole: _ } => data_write(part, status, address, count, value, si),
+        Field::StatusByte => Write::Nothing,
+    }
+}
+
+// What a counted rise with the bit si writes.
+pub fn rise_write(part: Part, status: Status, phase: Phase, si: bool) -> Write
+    requires { ⌜ PhaseIn part phase ⌝ }
+    ensures { λ r. ⌜ r ≡ riseWrite part status phase si ⌝ }
+{
+    match phase {
+        Phase::Rest => Write::Nothing,
+        Phase::Deaf => Write::Nothing,
+        Phase::Taking {
+            field,
+            count,
+            value,
+        } => field_write(part, status, field, count, value, si),
+        Phase::Showing { source: _, bit: _ } => Write::Nothing,
+        Phase::Waiting { action: _ } => Write::Nothing,
+    }
+}

@@ -1,0 +1,53 @@
+-- An event in a trace is one byte of kind, then a body whose length the kind fixes. A single event is read from the front of
+-- its bytes; bytes after it are ignored.
+use Prim.Native.Nat.{ℕ, _+_, _*_}
+use mathlib.Core.Bool.{Bool, true, false, cond, not}
+use mathlib.Core.List.{List}
+use lib.Dec.{eqb, ltb}
+use lib.ListN.{length, getD}
+use Rattle.parts.specs.declared.part.Bus.{Bus}
+use Rattle.parts.specs.declared.part.Bus.the-variants.{Spi, I2c}
+use Rattle.parts.specs.declared.part.Part.{Part}
+use Rattle.parts.specs.declared.refusal.Refusal.{Refusal}
+use Rattle.parts.specs.declared.refusal.Refusal.the-variants.{ModelRange, StateRange, MemoryLength, UnknownKind, Truncated, FieldRange, Unpowered, Powered, Unexpected}
+use Rattle.trace.specs.declared.event.Event.{Event}
+use Rattle.trace.specs.declared.event.Event.the-variants.{SpiPowerOn, I2cPowerOn, PowerOff, Sample, Expected}
+use Rattle.trace.specs.declared.read.Read.{Read}
+use Rattle.trace.specs.declared.read.Read.the-variants.{Whole, Refused}
+use Rattle.trace.specs.Event.{fieldsIn}
+
+abbrev pub isSpi : Bus → Bool
+isSpi Spi = true
+isSpi I2c = false
+
+-- 01 SPI power on, 02 I2C power on, 03 power off, 04 sample, 05 expected answer
+abbrev pub knownKind : Bus → ℕ → Bool
+knownKind bus k =
+    cond (eqb k 1) (isSpi bus) (cond (eqb k 2) (not (isSpi bus)) (cond (eqb k 3) true (cond (eqb k 4) true (cond (eqb k 5) true false))))
+
+-- the kind's byte, with four bytes of body for 02, none for 03 and one for the others
+abbrev pub eventLength : ℕ → ℕ
+eventLength k = cond (eqb k 2) 5 (cond (eqb k 3) 1 2)
+
+-- three bytes, most significant first
+abbrev pub startAddress : ℕ → ℕ → ℕ → ℕ
+startAddress high middle low = 65536 * high + 256 * middle + low
+
+-- the event of a known kind from its bytes
+abbrev pub eventOf : ℕ → List ℕ → Event
+eventOf k t =
+    cond (eqb k 1) (SpiPowerOn (getD t 1 0))
+    (cond (eqb k 2) (I2cPowerOn (getD t 1 0) (startAddress (getD t 2 0) (getD t 3 0) (getD t 4 0)))
+    (cond (eqb k 3) PowerOff
+    (cond (eqb k 4) (Sample (getD t 1 0))
+    (Expected (getD t 1 0)))))
+
+-- numbers 4, 5 and 6, in that order; an empty event is 5
+unfoldable pub readOf : Part → List ℕ → Read
+readOf p t =
+    cond (eqb (length t) 0) (Refused Truncated)
+    (cond (knownKind (p .bus) (getD t 0 0))
+    (cond (ltb (length t) (eventLength (getD t 0 0))) (Refused Truncated)
+    (cond (fieldsIn p (eventOf (getD t 0 0) t)) (Whole (eventOf (getD t 0 0) t) (eventLength (getD t 0 0)))
+    (Refused FieldRange)))
+    (Refused UnknownKind))

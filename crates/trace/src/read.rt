@@ -1,0 +1,102 @@
+// The event at the front of some bytes, or why there is none.
+ghost use mathlib.Core.Path.{_≡_};
+ghost use Prim.Native.Nat.{_≤_};
+ghost use lib.ListN.{length};
+ghost use Rattle.trace.specs.Read.{isSpi, knownKind, eventLength, startAddress, eventOf, readOf};
+use crate::event::Event;
+use parts::part::Bus;
+use parts::part::Part;
+use parts::refusal::Refusal;
+
+pub enum Read {
+    // a whole event and how many bytes it takes
+    Whole { event: Event, taken: usize },
+    Refused { refusal: Refusal },
+}
+
+fn is_spi(bus: Bus) -> bool
+    ensures { λ r. ⌜ r ≡ isSpi bus ⌝ }
+{
+    match bus {
+        Bus::Spi => true,
+        Bus::I2c => false,
+    }
+}
+
+// Whether an event of this kind can happen on the bus.
+fn known_kind(bus: Bus, kind: u8) -> bool
+    ensures { λ r. ⌜ r ≡ knownKind bus kind ⌝ }
+{
+    match kind {
+        1 => is_spi(bus),
+        2 => !is_spi(bus),
+        3 => true,
+        4 => true,
+        5 => true,
+        _ => false,
+    }
+}
+
+// How many bytes an event takes, its kind included.
+fn event_length(kind: u8) -> usize
+    ensures { λ r. ⌜ r ≡ eventLength kind ⌝ }
+{
+    match kind {
+        2 => 5,
+        3 => 1,
+        _ => 2,
+    }
+}
+
+// The three bytes of a start address.
+fn start_address(high: u8, middle: u8, low: u8) -> u32
+    ensures { λ r. ⌜ r ≡ startAddress high middle low ⌝ }
+{
+    65536 * high as u32 + 256 * middle as u32 + low as u32
+}
+
+// The event of a known kind whose bytes are all there.
+fn event_of(kind: u8, bytes: &[u8]) -> Event
+    requires { ⌜ eventLength kind ≤ length (now bytes) ⌝ }
+    ensures { λ r. ⌜ r ≡ eventOf kind (now (bytes .entry)) ⌝ }
+{
+    match kind {
+        1 => Event::SpiPowerOn { sample: bytes[1] },
+        2 => Event::I2cPowerOn {
+            sample: bytes[1],
+            start: start_address(bytes[2], bytes[3], bytes[4]),
+        },
+        3 => Event::PowerOff,
+        4 => Event::Sample { sample: bytes[1] },
+        _ => Event::Expected { answer: bytes[1] },
+    }
+}
+
+// Refused with 4, 5 or 6, tested in that order; bytes after the event are ignored.
+pub fn read_event(part: Part, bytes: &[u8]) -> Read
+    ensures { λ r. ⌜ r ≡ readOf part (now (bytes .entry)) ⌝ }
+{
+    if bytes.len() == 0 {
+        return refused(Refusal::Truncated);
+    }
+    let kind = bytes[0];
+    let bus = part.bus;
+    if !known_kind(bus, kind) {
+        return refused(Refusal::UnknownKind);
+    }
+    let taken = event_length(kind);
+    if bytes.len() < taken {
+        return refused(Refusal::Truncated);
+    }
+    let event = event_of(kind, bytes);
+    if !crate::event::fields_in(part, event) {
+        return refused(Refusal::FieldRange);
+    }
+    Read::Whole { event, taken }
+}
+
+fn refused(refusal: Refusal) -> Read
+    ensures { λ r. ⌜ r ≡ Read.Refused refusal ⌝ }
+{
+    Read::Refused { refusal }
+}
