@@ -2,4 +2,3 @@ pub mod RangeLaws
 pub mod BufferLaws
 pub mod StoreLaws
 pub mod Keeps
-pub mod Examples

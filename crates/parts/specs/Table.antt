@@ -9,6 +9,10 @@ use Rattle.parts.specs.declared.part.Bus.{Bus}
 use Rattle.parts.specs.declared.part.Bus.the-variants.{Spi, I2c}
 use Rattle.parts.specs.declared.part.Part.{Part}
 
+abbrev pub isSpi : Bus → Bool
+isSpi Spi = true
+isSpi I2c = false
+
 -- sheet 003
 abbrev pub mr45v032a : Part
 mr45v032a =

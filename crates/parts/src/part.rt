@@ -1,11 +1,22 @@
 // The five parts: the one constant table that every layer reads.
 ghost use mathlib.Core.Path.{_≡_};
 ghost use Prim.Native.Nat.{_<_};
-ghost use Rattle.parts.specs.Table.{partOf};
+ghost use Rattle.parts.specs.Table.{isSpi, partOf};
 
 pub enum Bus {
     Spi,
     I2c,
+}
+
+impl Bus {
+    pub fn is_spi(self) -> bool
+        ensures { λ r. ⌜ r ≡ isSpi self ⌝ }
+    {
+        match self {
+            Bus::Spi => true,
+            Bus::I2c => false,
+        }
+    }
 }
 
 pub struct Part {

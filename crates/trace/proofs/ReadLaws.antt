@@ -34,7 +34,7 @@ chain false true true d f e m n h = let z : _≡_ {A = ℕ} 0 1 = cc in absurd (
 chain false true false false f e m n h = let z : _≡_ {A = ℕ} 0 1 = cc in absurd (omega arith)
 
 -- an event takes at least the byte of its kind
-length-positive : (k : ℕ) → 0 < eventLength k
+pub length-positive : (k : ℕ) → 0 < eventLength k
 length-positive k = by (eqb k 2) (eqb k 3)
   where
     by : (a b : Bool) → 0 < cond a 5 (cond b 1 2)

@@ -6,21 +6,16 @@ use mathlib.Core.List.{List}
 use lib.Dec.{eqb, ltb}
 use lib.ListN.{length, getD}
 use Rattle.parts.specs.declared.part.Bus.{Bus}
-use Rattle.parts.specs.declared.part.Bus.the-variants.{Spi, I2c}
 use Rattle.parts.specs.declared.part.Part.{Part}
-use Rattle.parts.specs.declared.refusal.Refusal.{Refusal}
-use Rattle.parts.specs.declared.refusal.Refusal.the-variants.{ModelRange, StateRange, MemoryLength, UnknownKind, Truncated, FieldRange, Unpowered, Powered, Unexpected}
+use Rattle.parts.specs.declared.refusal.Refusal.the-variants.{UnknownKind, Truncated, FieldRange}
+use Rattle.parts.specs.Table.{isSpi}
 use Rattle.trace.specs.declared.event.Event.{Event}
 use Rattle.trace.specs.declared.event.Event.the-variants.{SpiPowerOn, I2cPowerOn, PowerOff, Sample, Expected}
 use Rattle.trace.specs.declared.read.Read.{Read}
 use Rattle.trace.specs.declared.read.Read.the-variants.{Whole, Refused}
 use Rattle.trace.specs.Event.{fieldsIn}
 
-abbrev pub isSpi : Bus → Bool
-isSpi Spi = true
-isSpi I2c = false
-
--- 01 SPI power on, 02 I2C power on, 03 power off, 04 sample, 05 expected answer
+-- 01 SPI power on, 02 I2C power on, 03 power off, 04 sample, 05 expected answer; 01 on I2C and 02 on SPI are unknown
 abbrev pub knownKind : Bus → ℕ → Bool
 knownKind bus k =
     cond (eqb k 1) (isSpi bus) (cond (eqb k 2) (not (isSpi bus)) (cond (eqb k 3) true (cond (eqb k 4) true (cond (eqb k 5) true false))))

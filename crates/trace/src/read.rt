@@ -2,7 +2,7 @@
 ghost use mathlib.Core.Path.{_≡_};
 ghost use Prim.Native.Nat.{_≤_};
 ghost use lib.ListN.{length};
-ghost use Rattle.trace.specs.Read.{isSpi, knownKind, eventLength, startAddress, eventOf, readOf};
+ghost use Rattle.trace.specs.Read.{knownKind, eventLength, startAddress, eventOf, readOf};
 use crate::event::Event;
 use parts::part::Bus;
 use parts::part::Part;
@@ -14,22 +14,13 @@ pub enum Read {
     Refused { refusal: Refusal },
 }
 
-fn is_spi(bus: Bus) -> bool
-    ensures { λ r. ⌜ r ≡ isSpi bus ⌝ }
-{
-    match bus {
-        Bus::Spi => true,
-        Bus::I2c => false,
-    }
-}
-
 // Whether an event of this kind can happen on the bus.
 fn known_kind(bus: Bus, kind: u8) -> bool
     ensures { λ r. ⌜ r ≡ knownKind bus kind ⌝ }
 {
     match kind {
-        1 => is_spi(bus),
-        2 => !is_spi(bus),
+        1 => bus.is_spi(),
+        2 => !bus.is_spi(),
         3 => true,
         4 => true,
         5 => true,

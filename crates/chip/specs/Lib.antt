@@ -1,0 +1,4 @@
+pub mod Model
+pub mod Check
+pub mod Power
+pub mod Event

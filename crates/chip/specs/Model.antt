@@ -1,0 +1,13 @@
+-- The state of a model: part, address pins, the status register with the saved bits, and what the bus is waiting for.
+use Prim.Native.Nat.{ℕ}
+use Rattle.parts.specs.declared.status.Status.{Status}
+use Rattle.chip.specs.declared.model.BusState.{BusState}
+use Rattle.chip.specs.declared.model.BusState.the-variants.{Unpowered, SpiOn, I2cOn}
+use Rattle.chip.specs.declared.model.Model.{Model}
+
+abbrev pub modelOf : ℕ → ℕ → Status → BusState → Model
+modelOf part pins st b = record { part = part; pins = pins; status = st; bus = b }
+
+-- a model is made, unpowered
+abbrev pub unpowered : ℕ → ℕ → Status → Model
+unpowered part pins st = modelOf part pins st Unpowered

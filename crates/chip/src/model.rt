@@ -1,0 +1,33 @@
+// The state of a model.
+ghost use mathlib.Core.Path.{_≡_};
+ghost use Rattle.chip.specs.Model.{unpowered};
+use i2c::sample::I2c;
+use parts::status::Status;
+use spi::sample::Spi;
+
+// What the bus is waiting for.
+pub enum BusState {
+    Unpowered,
+    SpiOn { spi: Spi },
+    I2cOn { i2c: I2c },
+}
+
+pub struct Model {
+    pub part: u32,
+    // address pins
+    pub pins: u32,
+    // the status register, whose SRWD, BP1 and BP0 are the saved bits
+    pub status: Status,
+    pub bus: BusState,
+}
+
+pub fn unpowered(part: u32, pins: u32, status: Status) -> Model
+    ensures { λ r. ⌜ r ≡ unpowered part pins status ⌝ }
+{
+    Model {
+        part,
+        pins,
+        status,
+        bus: BusState::Unpowered,
+    }
+}

@@ -1,0 +1,57 @@
+// Power on and power off.
+ghost use mathlib.Core.Path.{_≡_};
+ghost use Rattle.chip.specs.Power.{spiStart, i2cStart, keptStatus};
+use i2c::buffer::AddressBuffer;
+use i2c::sample::I2c;
+use parts::answer::Answer;
+use parts::part::Part;
+use parts::status::Status;
+use spi::sample::Spi;
+
+// An SPI part at power on: deaf until CS# has been 1.
+pub fn spi_start(levels: spi::levels::Levels) -> Spi
+    ensures { λ r. ⌜ r ≡ spiStart levels ⌝ }
+{
+    if levels.cs {
+        Spi {
+            last: levels,
+            asleep: false,
+            shown: Answer::HighZ,
+            phase: spi::phase::Phase::Rest,
+        }
+    } else {
+        Spi {
+            last: levels,
+            asleep: false,
+            shown: Answer::HighZ,
+            phase: spi::phase::Phase::Deaf,
+        }
+    }
+}
+
+// An I2C part at power on: at rest, with an unused start address.
+pub fn i2c_start(levels: i2c::levels::Levels, start: u32) -> I2c
+    ensures { λ r. ⌜ r ≡ i2cStart levels start ⌝ }
+{
+    let buffer = AddressBuffer {
+        address: start,
+        used: false,
+    };
+    I2c {
+        last: levels,
+        pulling: false,
+        buffer,
+        phase: i2c::phase::Phase::Rest,
+    }
+}
+
+// The status register after power off.
+pub fn kept_status(part: Part, status: Status) -> Status
+    ensures { λ r. ⌜ r ≡ keptStatus part status ⌝ }
+{
+    if part.saved {
+        status.with_wel(false)
+    } else {
+        Status::CLEARED
+    }
+}

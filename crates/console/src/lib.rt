@@ -1,0 +1,32 @@
+// A program that runs the raw bytes of standard input on a part: reads, shows, prints.
+use libc::STDIN_FILENO;
+use libc::STDOUT_FILENO;
+
+// The answers of the accepted events, 64 to a line, then number, count and offset.
+pub fn serve(part: u32, memory: &mut [u8]) {
+    let mut input = [0u8; 65537];
+    let length = io::read_full(STDIN_FILENO, &mut input);
+    print(part, &input[..length], memory);
+}
+
+// The same for bytes at hand.
+pub fn print(part: u32, trace: &[u8], memory: &mut [u8]) {
+    // 65,536 answers and 1,024 line ends: the longest text there is
+    let mut out = [0u8; 66560];
+    let report = report::show::show(part, trace, memory, &mut out);
+    if report.long {
+        io::write_all(STDOUT_FILENO, b"too long\n");
+        return;
+    }
+    let length = report.length;
+    if length <= 66560 {
+        let shown = io::count(length as isize, &out);
+        io::write_all(STDOUT_FILENO, &out[..shown]);
+    }
+    io::print_decimal(STDOUT_FILENO, report.number as u64);
+    io::write_all(STDOUT_FILENO, b" ");
+    io::print_decimal(STDOUT_FILENO, report.count as u64);
+    io::write_all(STDOUT_FILENO, b" ");
+    io::print_decimal(STDOUT_FILENO, report.offset as u64);
+    io::write_all(STDOUT_FILENO, b"\n");
+}

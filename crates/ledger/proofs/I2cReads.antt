@@ -1,0 +1,127 @@
+-- The clocks of a span, taken from the left: where they lead the phase and the address buffer, and that what they write is what
+-- the ledger reads off their bytes, whatever the buffer was. Assumes nothing.
+use Prim.Native.Nat.{ℕ, _+_}
+use mathlib.Core.Path.{_≡_, refl, _∙_}
+use mathlib.Core.Bool.{Bool, true, false, cond}
+use mathlib.Core.List.{List, [], _∷_, _++_}
+use lib.Dec.{ltb}
+use Rattle.parts.specs.declared.part.Part.{Part}
+use Rattle.serial.specs.declared.write.Write.the-variants as write
+use Rattle.serial.specs.Address.{nextAddress}
+use Rattle.i2c.specs.declared.buffer.AddressBuffer.{AddressBuffer}
+use Rattle.i2c.specs.declared.phase.Field.{Field}
+use Rattle.i2c.specs.declared.phase.Field.the-variants.{Word, HighByte, LowByte, Data}
+use Rattle.i2c.specs.declared.phase.Phase.{Phase}
+use Rattle.i2c.specs.declared.phase.Phase.the-variants.{Deaf, Taking, Sending}
+use Rattle.i2c.specs.declared.word.DeviceWord.{DeviceWord}
+use Rattle.i2c.specs.declared.word.DeviceWord.the-variants.{ReadWord, WriteWord, OtherWord}
+use Rattle.i2c.specs.Buffer.{joined, fieldBuffer, bufferAfter}
+use Rattle.i2c.specs.Phase.{begun, finished, afterRise}
+use Rattle.i2c.specs.Store.{fieldWrite, riseWrite}
+use Rattle.i2c.specs.Word.{wordOf}
+use Rattle.ledger.specs.Stores.{Store}
+use Rattle.ledger.specs.I2cLedger.{Clock, Byte, bytes, placed, written, byWord, stores}
+use Rattle.ledger.proofs.Folds as Folds
+use Rattle.ledger.proofs.Folds.{after-snoc, given-snoc}
+use Rattle.ledger.proofs.StoreLaws.{storesOf}
+
+-- what moves in a span
+pub record Place : Type 0 where
+  pub phase : Phase
+  pub buffer : AddressBuffer
+
+module _ (p : Part) (pins : ℕ) where
+  -- one clock
+  abbrev pub clocked : Place → Clock → Place
+  clocked o k = record { phase = afterRise p pins (o .buffer) (o .phase) (k .line); buffer = bufferAfter p (o .buffer) (o .phase) }
+
+  abbrev pub clockStores : Place → Clock → List Store
+  clockStores o k = storesOf (riseWrite (o .phase) (k .wp))
+
+  -- where clocks lead, and what they write
+  abbrev pub after : Phase → AddressBuffer → List Clock → Place
+  after ph b ks = Folds.after clocked (record { phase = ph; buffer = b }) ks
+
+  abbrev pub wrote : Phase → AddressBuffer → List Clock → List Store
+  wrote ph b ks = Folds.given clocked clockStores (record { phase = ph; buffer = b }) ks
+
+  -- ---- one clock more
+
+  pub after-more : (ph : Phase) (b : AddressBuffer) (ks : List Clock) (k : Clock) → after ph b (ks ++ (k ∷ [])) ≡ clocked (after ph b ks) k
+  after-more ph b ks k = after-snoc clocked (record { phase = ph; buffer = b }) ks k
+
+  pub wrote-more : (ph : Phase) (b : AddressBuffer) (ks : List Clock) (k : Clock)
+      → wrote ph b (ks ++ (k ∷ [])) ≡ wrote ph b ks ++ clockStores (after ph b ks) k
+  wrote-more ph b ks k = given-snoc clocked clockStores (record { phase = ph; buffer = b }) ks k
+
+  -- ---- a part that does not take bytes in writes nothing
+
+  deaf-wrote : (b : AddressBuffer) (ks : List Clock) → wrote Deaf b ks ≡ []
+  deaf-wrote b [] = refl
+  deaf-wrote b (k ∷ ks) = deaf-wrote b ks
+
+  sending-wrote : (ks : List Clock) (a n : ℕ) (b : AddressBuffer) → wrote (Sending a n) b ks ≡ []
+  sending-wrote [] a n b = refl
+  sending-wrote (k ∷ ks) a n b = by (sending-wrote ks) (ltb n 8) (k .line) (bufferAfter p b (Sending a n))
+    where
+      by : ((x y : ℕ) (c : AddressBuffer) → wrote (Sending x y) c ks ≡ [])
+          → (t u : Bool) (c : AddressBuffer) → wrote (cond t (Sending a (n + 1)) (cond u Deaf (Sending (nextAddress (p .size) a) 0))) c ks ≡ []
+      by rest true u c = rest a (n + 1) c
+      by rest false true c = deaf-wrote c ks
+      by rest false false c = rest (nextAddress (p .size) a) 0 c
+
+  -- ---- a part that takes bytes in writes what the ledger places
+
+  -- the stores of the bytes to come, when the next one is this field
+  abbrev fieldStores : Field → List Byte → List Store
+  fieldStores Word vs = stores p pins vs
+  fieldStores (HighByte a16) vs = written p a16 vs
+  fieldStores (LowByte a16 high) [] = []
+  fieldStores (LowByte a16 high) (low ∷ vs) = placed p (joined p a16 high (low .value)) vs
+  fieldStores (Data a) vs = placed p a vs
+
+  no-byte : (f : Field) → [] ≡ fieldStores f []
+  no-byte Word = refl
+  no-byte (HighByte a16) = refl
+  no-byte (LowByte a16 high) = refl
+  no-byte (Data a) = refl
+
+  after-high : (a16 : Bool) (high : Byte) (vs : List Byte) → fieldStores (LowByte a16 (high .value)) vs ≡ written p a16 (high ∷ vs)
+  after-high a16 high [] = refl
+  after-high a16 high (low ∷ vs) = refl
+
+  after-data : (a v : ℕ) (wp : Bool) {ws us : List Store} → ws ≡ us
+      → storesOf (cond wp write.Nothing (write.Byte a v)) ++ ws ≡ cond wp us (record { address = a; value = v } ∷ us)
+  after-data a v true e = e
+  after-data a v false e = rw e
+
+  -- a whole byte, given what the clocks after it write
+  module _ (ks : List Clock) (vs : List Byte) (rest : (f : Field) (b : AddressBuffer) → wrote (Taking f 0 0) b ks ≡ fieldStores f vs) where
+    by-word : (b : AddressBuffer) (w : DeviceWord) → wrote (begun p b w) b ks ≡ byWord p w vs
+    by-word b (ReadWord a16) = sending-wrote ks _ 0 b
+    by-word b (WriteWord a16) = rest (HighByte a16) b
+    by-word b OtherWord = deaf-wrote b ks
+
+    by-field : (f : Field) (b : AddressBuffer) (v : Byte)
+        → storesOf (fieldWrite f (v .value) (v .wp)) ++ wrote (finished p pins b f (v .value)) (fieldBuffer p b f (v .value)) ks ≡ fieldStores f (v ∷ vs)
+    by-field Word b v = by-word b (wordOf p pins (v .value))
+    by-field (HighByte a16) b v = rest (LowByte a16 (v .value)) b ∙ after-high a16 v vs
+    by-field (LowByte a16 high) b v = rest (Data (joined p a16 high (v .value))) _
+    by-field (Data a) b v = after-data a (v .value) (v .wp) (rest (Data (nextAddress (p .size) a)) _)
+
+  -- nine clocks make a byte, and fewer write nothing
+  field-wrote : (ks : List Clock) (f : Field) (b : AddressBuffer) → wrote (Taking f 0 0) b ks ≡ fieldStores f (bytes ks)
+  field-wrote [] f b = no-byte f
+  field-wrote (a₁ ∷ []) f b = no-byte f
+  field-wrote (a₁ ∷ a₂ ∷ []) f b = no-byte f
+  field-wrote (a₁ ∷ a₂ ∷ a₃ ∷ []) f b = no-byte f
+  field-wrote (a₁ ∷ a₂ ∷ a₃ ∷ a₄ ∷ []) f b = no-byte f
+  field-wrote (a₁ ∷ a₂ ∷ a₃ ∷ a₄ ∷ a₅ ∷ []) f b = no-byte f
+  field-wrote (a₁ ∷ a₂ ∷ a₃ ∷ a₄ ∷ a₅ ∷ a₆ ∷ []) f b = no-byte f
+  field-wrote (a₁ ∷ a₂ ∷ a₃ ∷ a₄ ∷ a₅ ∷ a₆ ∷ a₇ ∷ []) f b = no-byte f
+  field-wrote (a₁ ∷ a₂ ∷ a₃ ∷ a₄ ∷ a₅ ∷ a₆ ∷ a₇ ∷ a₈ ∷ []) f b = no-byte f
+  field-wrote (a₁ ∷ a₂ ∷ a₃ ∷ a₄ ∷ a₅ ∷ a₆ ∷ a₇ ∷ a₈ ∷ a₉ ∷ ks) f b = by-field ks (bytes ks) (field-wrote ks) f b _
+
+  -- a span writes what the ledger reads off it
+  pub span-wrote : (b : AddressBuffer) (ks : List Clock) → wrote (Taking Word 0 0) b ks ≡ stores p pins (bytes ks)
+  span-wrote b ks = field-wrote ks Word b

@@ -1,0 +1,138 @@
+-- The ledger of an I2C part: permitted writes, read off the accepted events and their answers by starts.
+-- Histories and lists of items have the latest first.
+use Prim.Native.Nat.{ℕ}
+use mathlib.Core.Bool.{Bool, true, false, cond, not, _&&_}
+use mathlib.Core.List.{List, [], _∷_, _++_}
+use lib.Dec.{eqb}
+use Rattle.parts.specs.declared.part.Part.{Part}
+use Rattle.serial.specs.Address.{nextAddress}
+use Rattle.trace.specs.declared.event.Event.{Event}
+use Rattle.trace.specs.declared.event.Event.the-variants.{SpiPowerOn, I2cPowerOn, PowerOff, Sample, Expected}
+use Rattle.i2c.specs.declared.edge.Edge.{Edge}
+use Rattle.i2c.specs.declared.edge.Edge.the-variants.{Start, Stop, Rise, Fall, Quiet}
+use Rattle.i2c.specs.declared.levels.Levels.{Levels}
+use Rattle.i2c.specs.declared.word.DeviceWord.{DeviceWord}
+use Rattle.i2c.specs.declared.word.DeviceWord.the-variants.{ReadWord, WriteWord, OtherWord}
+use Rattle.i2c.specs.Buffer.{joined}
+use Rattle.i2c.specs.Edge.{edgeOn}
+use Rattle.i2c.specs.Levels.{levelsOf}
+use Rattle.i2c.specs.Word.{wordOf}
+use Rattle.ledger.specs.Bits.{number}
+use Rattle.ledger.specs.Stores.{Store}
+use Rattle.ledger.specs.History.{Entry}
+
+-- ---- spans from a START
+
+-- a rise of SCL: the line, and WP in that sample
+pub record Clock : Type 0 where
+  pub line : Bool
+  pub wp : Bool
+
+-- from a START to the next START, STOP or power off, with its rises; and a time after a STOP, a power off or a power on
+pub data Item : Type 0 where
+  idle : Item
+  span : List Clock → Item
+
+abbrev pub withClock : Clock → List Item → List Item
+withClock k [] = []
+withClock k (idle ∷ is) = idle ∷ is
+withClock k (span ks ∷ is) = span (ks ++ (k ∷ [])) ∷ is
+
+abbrev pub noted : Edge → Bool → List Item → List Item
+noted Start wp is = span [] ∷ is
+noted Stop wp is = idle ∷ is
+noted (Rise line) wp is = withClock (record { line = line; wp = wp }) is
+noted Fall wp is = is
+noted Quiet wp is = is
+
+-- SCL and the line at a sample
+pub record Wires : Type 0 where
+  pub scl : Bool
+  pub line : Bool
+
+-- the line is low at a sample with SDA 0 or answer 0
+abbrev pub wiresAt : Levels → ℕ → Wires
+wiresAt l answer = record { scl = l .scl; line = l .sda && not (eqb answer 0) }
+
+-- before power on there is no sample
+abbrev pub noWires : Wires
+noWires = record { scl = false; line = false }
+
+abbrev pub wiresAfter : Event → ℕ → Wires → Wires
+wiresAfter (SpiPowerOn x) answer w = w
+wiresAfter (I2cPowerOn x a) answer w = wiresAt (levelsOf x) answer
+wiresAfter PowerOff answer w = noWires
+wiresAfter (Sample x) answer w = wiresAt (levelsOf x) answer
+wiresAfter (Expected v) answer w = w
+
+abbrev pub edgeBetween : Wires → Wires → Edge
+edgeBetween a b = edgeOn (a .scl) (b .scl) (a .line) (b .line)
+
+-- a power on is no START and no STOP
+abbrev pub itemsAfter : Event → ℕ → Wires → List Item → List Item
+itemsAfter (SpiPowerOn x) answer w is = is
+itemsAfter (I2cPowerOn x a) answer w is = idle ∷ is
+itemsAfter PowerOff answer w is = idle ∷ is
+itemsAfter (Sample x) answer w is = noted (edgeBetween w (wiresAt (levelsOf x) answer)) (levelsOf x .wp) is
+itemsAfter (Expected v) answer w is = is
+
+-- the wires at the last sample of a history
+abbrev pub lastWires : List Entry → Wires
+lastWires [] = noWires
+lastWires (e ∷ h) = wiresAfter (e .event) (e .answer) (lastWires h)
+
+-- the items of a history
+abbrev pub items : List Entry → List Item
+items [] = []
+items (e ∷ h) = itemsAfter (e .event) (e .answer) (lastWires h) (items h)
+
+-- ---- what the rises of a span say
+
+-- a whole byte: its value, and WP at its ninth rise
+pub record Byte : Type 0 where
+  pub value : ℕ
+  pub wp : Bool
+
+-- bits are the lines at SCL rises, nine to a byte, whole at the ninth
+abbrev pub bytes : List Clock → List Byte
+bytes [] = []
+bytes (a ∷ []) = []
+bytes (a ∷ b ∷ []) = []
+bytes (a ∷ b ∷ c ∷ []) = []
+bytes (a ∷ b ∷ c ∷ d ∷ []) = []
+bytes (a ∷ b ∷ c ∷ d ∷ e ∷ []) = []
+bytes (a ∷ b ∷ c ∷ d ∷ e ∷ f ∷ []) = []
+bytes (a ∷ b ∷ c ∷ d ∷ e ∷ f ∷ g ∷ []) = []
+bytes (a ∷ b ∷ c ∷ d ∷ e ∷ f ∷ g ∷ h ∷ []) = []
+bytes (a ∷ b ∷ c ∷ d ∷ e ∷ f ∷ g ∷ h ∷ ninth ∷ more) =
+    record {
+      value = number (a .line ∷ b .line ∷ c .line ∷ d .line ∷ e .line ∷ f .line ∷ g .line ∷ h .line ∷ []);
+      wp = ninth .wp;
+    }
+    ∷ bytes more
+
+-- each whole data byte goes to its address, up by one each time and rolled over, and is permitted if WP is 0 at its ninth rise
+abbrev pub placed : Part → ℕ → List Byte → List Store
+placed p a [] = []
+placed p a (v ∷ vs) = cond (v .wp) (placed p (nextAddress (p .size) a) vs) (record { address = a; value = v .value } ∷ placed p (nextAddress (p .size) a) vs)
+
+-- after the part's write word two address bytes and data follow
+abbrev pub written : Part → Bool → List Byte → List Store
+written p a16 [] = []
+written p a16 (high ∷ []) = []
+written p a16 (high ∷ low ∷ rest) = placed p (joined p a16 (high .value) (low .value)) rest
+
+abbrev pub byWord : Part → DeviceWord → List Byte → List Store
+byWord p (ReadWord a16) rest = []
+byWord p (WriteWord a16) rest = written p a16 rest
+byWord p OtherWord rest = []
+
+abbrev pub stores : Part → ℕ → List Byte → List Store
+stores p pins [] = []
+stores p pins (word ∷ rest) = byWord p (wordOf p pins (word .value)) rest
+
+-- all permitted writes of the items, the first first
+abbrev pub writes : Part → ℕ → List Item → List Store
+writes p pins [] = []
+writes p pins (idle ∷ is) = writes p pins is
+writes p pins (span ks ∷ is) = writes p pins is ++ stores p pins (bytes ks)

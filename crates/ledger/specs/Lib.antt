@@ -1,0 +1,5 @@
+pub mod Bits
+pub mod Stores
+pub mod History
+pub mod SpiLedger
+pub mod I2cLedger

@@ -1,0 +1,254 @@
+-- The ledger of an SPI part: permitted writes and status writes, read off the accepted events by selections.
+-- Histories and lists of items have the latest first.
+use Prim.Native.Nat.{ℕ, _/_, _%_}
+use mathlib.Core.Bool.{Bool, true, false, cond, not, _&&_}
+use mathlib.Core.List.{List, [], _∷_, _++_}
+use lib.Dec.{eqb, ltb}
+use Rattle.parts.specs.declared.part.Part.{Part}
+use Rattle.parts.specs.declared.status.Status.{Status}
+use Rattle.parts.specs.Status.{protectedStart}
+use Rattle.serial.specs.Address.{nextAddress}
+use Rattle.trace.specs.declared.event.Event.{Event}
+use Rattle.trace.specs.declared.event.Event.the-variants.{SpiPowerOn, I2cPowerOn, PowerOff, Sample, Expected}
+use Rattle.spi.specs.declared.edge.Edge.{Edge}
+use Rattle.spi.specs.declared.edge.Edge.the-variants.{Select, Deselect, Rise, Fall, Quiet}
+use Rattle.spi.specs.declared.levels.Levels.{Levels}
+use Rattle.spi.specs.declared.opcode.Command.{Command}
+use Rattle.spi.specs.declared.opcode.Command.the-variants.{WREN, WRDI, RDSR, WRSR, READ, WRITE, FSTRD, RDID, SLEEP, Unknown}
+use Rattle.spi.specs.Edge.{edgeOf}
+use Rattle.spi.specs.Levels.{levelsOf}
+use Rattle.spi.specs.Opcode.{commandOf}
+use Rattle.ledger.specs.Bits.{number, Field, short, whole, field, bytes}
+use Rattle.ledger.specs.Stores.{Store}
+use Rattle.ledger.specs.History.{Entry}
+
+-- ---- selections
+
+-- CS# has not risen yet, or has risen at a sample with this WP#
+pub data End : Type 0 where
+  unended : End
+  ended : Bool → End
+
+-- power on, power off, and a selection with the bits of its counted rises
+pub data Item : Type 0 where
+  powerOn : Item
+  powerOff : Item
+  selection : List Bool → End → Item
+
+-- a counted rise: the selection that has not ended gets a bit (CS# 0 at power on being no fall, there may be none)
+abbrev pub withBit : Bool → List Item → List Item
+withBit b [] = []
+withBit b (powerOn ∷ is) = powerOn ∷ is
+withBit b (powerOff ∷ is) = powerOff ∷ is
+withBit b (selection bs unended ∷ is) = selection (bs ++ (b ∷ [])) unended ∷ is
+withBit b (selection bs (ended w) ∷ is) = selection bs (ended w) ∷ is
+
+-- CS# rises at a sample with this WP#
+abbrev pub closed : Bool → List Item → List Item
+closed wp [] = []
+closed wp (powerOn ∷ is) = powerOn ∷ is
+closed wp (powerOff ∷ is) = powerOff ∷ is
+closed wp (selection bs unended ∷ is) = selection bs (ended wp) ∷ is
+closed wp (selection bs (ended w) ∷ is) = selection bs (ended w) ∷ is
+
+-- selections and counted rises are as in the bus rules
+abbrev pub noted : Edge → Bool → List Item → List Item
+noted Select wp is = selection [] unended ∷ is
+noted Deselect wp is = closed wp is
+noted (Rise b) wp is = withBit b is
+noted Fall wp is = is
+noted Quiet wp is = is
+
+-- before power on there is no sample; CS# 1 stands for that
+abbrev pub noSample : Levels
+noSample = record { cs = true; sck = false; si = false; wp = false; hold = false }
+
+abbrev pub lastAfter : Event → Levels → Levels
+lastAfter (SpiPowerOn x) l = levelsOf x
+lastAfter (I2cPowerOn x a) l = l
+lastAfter PowerOff l = noSample
+lastAfter (Sample x) l = levelsOf x
+lastAfter (Expected v) l = l
+
+abbrev pub itemsAfter : Event → Levels → List Item → List Item
+itemsAfter (SpiPowerOn x) l is = powerOn ∷ is
+itemsAfter (I2cPowerOn x a) l is = is
+itemsAfter PowerOff l is = powerOff ∷ is
+itemsAfter (Sample x) l is = noted (edgeOf l (levelsOf x)) (levelsOf x .wp) is
+itemsAfter (Expected v) l is = is
+
+-- the levels of the last sample of a history
+abbrev pub lastSample : List Entry → Levels
+lastSample [] = noSample
+lastSample (e ∷ h) = lastAfter (e .event) (lastSample h)
+
+-- the items of a history
+abbrev pub items : List Entry → List Item
+items [] = []
+items (e ∷ h) = itemsAfter (e .event) (lastSample h) (items h)
+
+-- ---- what the bits of a selection say
+
+-- no whole opcode yet, or a command and the bits after its opcode
+pub data Reading : Type 0 where
+  partial : Reading
+  command : Command → List Bool → Reading
+
+abbrev pub opcodeRead : Part → Field → Reading
+opcodeRead p (short xs) = partial
+opcodeRead p (whole xs rest) = command (commandOf p (number xs)) rest
+
+abbrev pub reading : Part → List Bool → Reading
+reading p bs = opcodeRead p (field 8 bs)
+
+-- the bits after a whole address, of which there are none if the address is not whole
+abbrev pub afterAddress : Field → List Bool
+afterAddress (short xs) = []
+afterAddress (whole xs rest) = rest
+
+-- the address of a command; it counts modulo the size
+abbrev pub addressIn : Part → Field → ℕ
+addressIn p (short xs) = 0
+addressIn p (whole xs rest) = number xs % p .size
+
+-- the whole data bytes of WRITE, whose address comes first, and where they begin
+abbrev pub dataBytes : Part → List Bool → List ℕ
+dataBytes p rest = bytes (afterAddress (field (p .width) rest))
+
+abbrev pub dataAddress : Part → List Bool → ℕ
+dataAddress p rest = addressIn p (field (p .width) rest)
+
+-- ---- sleep: the selection after a whole SLEEP, with no power off between, is deaf and counts as none
+
+abbrev pub sleepCommand : Command → Bool
+sleepCommand WREN = false
+sleepCommand WRDI = false
+sleepCommand RDSR = false
+sleepCommand WRSR = false
+sleepCommand READ = false
+sleepCommand WRITE = false
+sleepCommand FSTRD = false
+sleepCommand RDID = false
+sleepCommand SLEEP = true
+sleepCommand Unknown = false
+
+abbrev pub isSleep : Reading → Bool
+isSleep partial = false
+isSleep (command k rest) = sleepCommand k
+
+abbrev pub asleep : Part → List Item → Bool
+asleep p [] = false
+asleep p (powerOn ∷ is) = false
+asleep p (powerOff ∷ is) = false
+asleep p (selection bs unended ∷ is) = asleep p is
+asleep p (selection bs (ended wp) ∷ is) = cond (asleep p is) false (isSleep (reading p bs))
+
+-- the items without the deaf selections
+abbrev pub heard : Part → List Item → List Item
+heard p [] = []
+heard p (powerOn ∷ is) = powerOn ∷ heard p is
+heard p (powerOff ∷ is) = powerOff ∷ heard p is
+heard p (selection bs e ∷ is) = cond (asleep p is) (heard p is) (selection bs e ∷ heard p is)
+
+-- ---- the enable: a whole WREN since power on, with no whole WRDI, and no WRITE or WRSR with a whole data byte, in between
+
+abbrev pub unlessAny : List ℕ → Bool → Bool
+unlessAny [] e = e
+unlessAny (v ∷ vs) e = false
+
+abbrev pub enableAfter : Part → Reading → Bool → Bool
+enableAfter p partial e = e
+enableAfter p (command WREN rest) e = true
+enableAfter p (command WRDI rest) e = false
+enableAfter p (command RDSR rest) e = e
+enableAfter p (command WRSR rest) e = unlessAny (bytes rest) e
+enableAfter p (command READ rest) e = e
+enableAfter p (command WRITE rest) e = unlessAny (dataBytes p rest) e
+enableAfter p (command FSTRD rest) e = e
+enableAfter p (command RDID rest) e = e
+enableAfter p (command SLEEP rest) e = e
+enableAfter p (command Unknown rest) e = e
+
+abbrev pub enabled : Part → List Item → Bool
+enabled p [] = false
+enabled p (powerOn ∷ is) = false
+enabled p (powerOff ∷ is) = false
+enabled p (selection bs unended ∷ is) = enabled p is
+enabled p (selection bs (ended wp) ∷ is) = enableAfter p (reading p bs) (enabled p is)
+
+-- ---- the saved bits: those of the last permitted status write, or those made
+
+pub record SavedBits : Type 0 where
+  pub srwd : Bool
+  pub bp1 : Bool
+  pub bp0 : Bool
+
+abbrev pub noBits : SavedBits
+noBits = record { srwd = false; bp1 = false; bp0 = false }
+
+-- bits 7, 3 and 2 of a byte
+abbrev pub bitsIn : ℕ → SavedBits
+bitsIn v = record { srwd = eqb (v / 128 % 2) 1; bp1 = eqb (v / 8 % 2) 1; bp0 = eqb (v / 4 % 2) 1 }
+
+-- the status register that has these bits and this WEL
+abbrev pub register : SavedBits → Bool → Status
+register b e = record { srwd = b .srwd; bp1 = b .bp1; bp0 = b .bp0; wel = e }
+
+-- WRSR with enable: at CS# rising after a whole data byte, the first one's bits 7, 3, 2, unless SRWD is 1 in the ledger and WP#
+-- is 0 in that sample
+abbrev pub statusWrite : List ℕ → Bool → Bool → SavedBits → SavedBits
+statusWrite [] e wp b = b
+statusWrite (v ∷ vs) e wp b = cond (e && not (b .srwd && not wp)) (bitsIn v) b
+
+abbrev pub bitsAfter : Reading → Bool → Bool → SavedBits → SavedBits
+bitsAfter partial e wp b = b
+bitsAfter (command WREN rest) e wp b = b
+bitsAfter (command WRDI rest) e wp b = b
+bitsAfter (command RDSR rest) e wp b = b
+bitsAfter (command WRSR rest) e wp b = statusWrite (bytes rest) e wp b
+bitsAfter (command READ rest) e wp b = b
+bitsAfter (command WRITE rest) e wp b = b
+bitsAfter (command FSTRD rest) e wp b = b
+bitsAfter (command RDID rest) e wp b = b
+bitsAfter (command SLEEP rest) e wp b = b
+bitsAfter (command Unknown rest) e wp b = b
+
+-- power off zeroes the bits of a part that does not save them
+abbrev pub keptBits : Part → SavedBits → SavedBits
+keptBits p b = cond (p .saved) b noBits
+
+abbrev pub bits : Part → SavedBits → List Item → SavedBits
+bits p made [] = made
+bits p made (powerOn ∷ is) = bits p made is
+bits p made (powerOff ∷ is) = keptBits p (bits p made is)
+bits p made (selection bs unended ∷ is) = bits p made is
+bits p made (selection bs (ended wp) ∷ is) = bitsAfter (reading p bs) (enabled p is) wp (bits p made is)
+
+-- ---- the memory writes
+
+-- each whole data byte goes to its address, up by one each time and rolled over, and is permitted unless the bits protect it
+abbrev pub placed : Part → SavedBits → ℕ → List ℕ → List Store
+placed p b a [] = []
+placed p b a (v ∷ vs) =
+    cond (ltb a (protectedStart (register b false) p)) (record { address = a; value = v } ∷ placed p b (nextAddress (p .size) a) vs)
+    (placed p b (nextAddress (p .size) a) vs)
+
+abbrev pub stores : Part → SavedBits → Reading → List Store
+stores p b partial = []
+stores p b (command WREN rest) = []
+stores p b (command WRDI rest) = []
+stores p b (command RDSR rest) = []
+stores p b (command WRSR rest) = []
+stores p b (command READ rest) = []
+stores p b (command WRITE rest) = placed p b (dataAddress p rest) (dataBytes p rest)
+stores p b (command FSTRD rest) = []
+stores p b (command RDID rest) = []
+stores p b (command SLEEP rest) = []
+stores p b (command Unknown rest) = []
+
+-- all permitted writes of the items, the first first: those of WRITEs with enable
+abbrev pub writes : Part → SavedBits → List Item → List Store
+writes p made [] = []
+writes p made (powerOn ∷ is) = writes p made is
+writes p made (powerOff ∷ is) = writes p made is
+writes p made (selection bs e ∷ is) = writes p made is ++ cond (enabled p is) (stores p (bits p made is) (reading p bs)) []

@@ -1,0 +1,5 @@
+pub mod EventLaws
+pub mod RunLaws
+pub mod RunRule
+pub mod RunCounts
+pub mod Examples

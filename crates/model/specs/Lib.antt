@@ -1,0 +1,3 @@
+pub mod Make
+pub mod Event
+pub mod Run

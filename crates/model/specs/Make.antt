@@ -1,0 +1,30 @@
+-- A model is made, unpowered, from a part number, address pins and saved bits.
+use Prim.Native.Nat.{ℕ, _/_, _%_}
+use mathlib.Core.Bool.{Bool, true, false, cond, _&&_}
+use lib.Dec.{ltb, eqb}
+use Rattle.parts.specs.declared.part.Part.{Part}
+use Rattle.parts.specs.declared.refusal.Refusal.the-variants.{ModelRange}
+use Rattle.parts.specs.declared.status.Status.{Status}
+use Rattle.parts.specs.Numbers.{refusalNumber}
+use Rattle.parts.specs.Status.{cleared}
+use Rattle.parts.specs.Table.{partOf}
+use Rattle.chip.specs.declared.model.Model.{Model}
+use Rattle.chip.specs.Model.{unpowered}
+use Rattle.model.specs.declared.make.Made.{Made}
+
+-- saved bits 0 to 7 as SRWD BP1 BP0
+abbrev pub statusOf : ℕ → Status
+statusOf bits = record { srwd = eqb (bits / 4 % 2) 1; bp1 = eqb (bits / 2 % 2) 1; bp0 = eqb (bits % 2) 1; wel = false }
+
+-- address pins 0 to 7 for part 3, 0 to 3 for part 4, else 0; saved bits 0 to 7 for parts 1 and 2, else 0
+abbrev pub settingsIn : Part → ℕ → ℕ → Bool
+settingsIn p pins bits = ltb pins (p .pins) && cond (p .saved) (ltb bits 8) (ltb bits 1)
+
+abbrev pub makeIn : ℕ → ℕ → ℕ → Bool
+makeIn part pins bits = ltb part 5 && settingsIn (partOf part) pins bits
+
+-- refused making gives its number and the unpowered model of part 0 with zero pins and bits
+unfoldable pub makeOf : ℕ → ℕ → ℕ → Made
+makeOf part pins bits =
+    cond (makeIn part pins bits) (record { number = 0; model = unpowered part pins (statusOf bits) })
+    (record { number = refusalNumber ModelRange; model = unpowered 0 0 cleared })

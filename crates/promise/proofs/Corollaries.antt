@@ -1,0 +1,204 @@
+-- What follows from the promise, in plain words: without the enable nothing is stored, one enable serves one WRITE, a byte is the
+-- old or the new one at every moment, and a cut changes no byte. For every making, every first memory and every list of events.
+-- From the memory's agreement with the ledger after every list. Assumes nothing.
+use Prim.Native.Nat.{ℕ}
+use mathlib.Core.Path.{_≡_, refl, sym, ap, _∙_}
+use mathlib.Core.Bool.{Bool, true, false, cond}
+use mathlib.Core.List.{List, [], _∷_, _++_, append-nil}
+use lib.Dec.{eqb}
+use lib.ListN.{set}
+use Rattle.parts.specs.declared.part.Part.{Part}
+use Rattle.parts.specs.Table.{isSpi, partOf}
+use Rattle.parts.proofs.Rows.{part-fits}
+use Rattle.serial.specs.declared.write.Write.{Write}
+use Rattle.serial.specs.declared.write.Write.the-variants.{Nothing, Byte}
+use Rattle.trace.specs.declared.read.Read.{Read}
+use Rattle.trace.specs.declared.read.Read.the-variants.{Whole, Refused}
+use Rattle.trace.specs.Read.{readOf}
+use Rattle.spi.specs.declared.opcode.Command.{Command}
+use Rattle.spi.specs.declared.opcode.Command.the-variants.{WREN, WRDI, RDSR, WRSR, READ, WRITE, FSTRD, RDID, SLEEP, Unknown}
+use Rattle.chip.specs.declared.model.BusState.the-variants.{Unpowered}
+use Rattle.chip.specs.declared.model.Model.{Model}
+use Rattle.chip.proofs.CheckLaws.{model-in}
+use Rattle.model.specs.Event.{eventOf}
+use Rattle.ledger.specs.Bits.{bytes}
+use Rattle.ledger.specs.History.{Entry}
+use Rattle.ledger.specs.Stores.{Store, stored}
+use Rattle.ledger.specs.SpiLedger.{End, unended, ended, Item, powerOn, powerOff, selection, items, Reading, partial, command, reading, dataBytes, asleep, heard, unlessAny, enableAfter, enabled, SavedBits, writes}
+use Rattle.ledger.proofs.StoreLaws.{storesOf, stored-append}
+use Rattle.promise.specs.Lists.{Seen, shown, modelAfter, memoryAfter}
+use Rattle.promise.specs.Fed.{withEvent}
+use Rattle.promise.specs.Ledger.{savedIn, ledgerStores}
+use Rattle.promise.specs.Promise.{madeBy, cut, thenCut, historyOf}
+use Rattle.promise.proofs.Ranges.{made-in, made-off}
+use Rattle.promise.proofs.Stays.{cut-memory, cut-refused}
+use Rattle.promise.proofs.Joins.{model-join, memory-join, fed-join}
+use Rattle.promise.proofs.Steps.{list-memory}
+use Rattle.promise.proofs.Grows.{Grown, ledger-grows}
+
+-- ---- without the enable
+
+abbrev pub wrenCommand : Command → Bool
+wrenCommand WREN = true
+wrenCommand WRDI = false
+wrenCommand RDSR = false
+wrenCommand WRSR = false
+wrenCommand READ = false
+wrenCommand WRITE = false
+wrenCommand FSTRD = false
+wrenCommand RDID = false
+wrenCommand SLEEP = false
+wrenCommand Unknown = false
+
+-- the bits of a selection begin with WREN
+abbrev pub isWren : Reading → Bool
+isWren partial = false
+isWren (command k rest) = wrenCommand k
+
+-- none of the selections is a WREN
+abbrev pub NoWren : Part → List Item → Type 0
+NoWren p [] = Unit {0}
+NoWren p (powerOn ∷ is) = NoWren p is
+NoWren p (powerOff ∷ is) = NoWren p is
+NoWren p (selection bs e ∷ is) = (isWren (reading p bs) ≡ false) × NoWren p is
+
+module _ (p : Part) (made : SavedBits) where
+  unless-off : (vs : List ℕ) → unlessAny vs false ≡ false
+  unless-off [] = refl
+  unless-off (v ∷ vs) = refl
+
+  -- only WREN sets the enable
+  enable-off : (r : Reading) → isWren r ≡ false → enableAfter p r false ≡ false
+  enable-off partial h = refl
+  enable-off (command WREN rest) h = h
+  enable-off (command WRDI rest) h = refl
+  enable-off (command RDSR rest) h = refl
+  enable-off (command WRSR rest) h = unless-off (bytes rest)
+  enable-off (command READ rest) h = refl
+  enable-off (command WRITE rest) h = unless-off (dataBytes p rest)
+  enable-off (command FSTRD rest) h = refl
+  enable-off (command RDID rest) h = refl
+  enable-off (command SLEEP rest) h = refl
+  enable-off (command Unknown rest) h = refl
+
+  -- a selection that comes without the enable, deaf (y) or not, stores nothing
+  one-stores : (y : Bool) (bs : List Bool) (e : End) (hs : List Item) → enabled p hs ≡ false
+      → writes p made (cond y hs (selection bs e ∷ hs)) ≡ writes p made hs
+  one-stores true bs e hs h = refl
+  one-stores false bs e hs h = rw (h, append-nil)
+
+  one-enable : (y : Bool) (bs : List Bool) (e : End) (hs : List Item) → isWren (reading p bs) ≡ false → enabled p hs ≡ false
+      → enabled p (cond y hs (selection bs e ∷ hs)) ≡ false
+  one-enable true bs e hs w h = h
+  one-enable false bs unended hs w h = h
+  one-enable false bs (ended wp) hs w h = rw h (enable-off (reading p bs) w)
+
+  -- nor does any number of them without a WREN
+  off-enable : (more is : List Item) → NoWren p more → enabled p (heard p is) ≡ false → enabled p (heard p (more ++ is)) ≡ false
+  off-enable [] is n h = h
+  off-enable (powerOn ∷ more) is n h = refl
+  off-enable (powerOff ∷ more) is n h = refl
+  off-enable (selection bs e ∷ more) is n h =
+      one-enable (asleep p (more ++ is)) bs e (heard p (more ++ is)) (n .0) (off-enable more is (n .1) h)
+
+  off-stores : (more is : List Item) → NoWren p more → enabled p (heard p is) ≡ false
+      → writes p made (heard p (more ++ is)) ≡ writes p made (heard p is)
+  off-stores [] is n h = refl
+  off-stores (powerOn ∷ more) is n h = off-stores more is n h
+  off-stores (powerOff ∷ more) is n h = off-stores more is n h
+  off-stores (selection bs e ∷ more) is n h =
+      one-stores (asleep p (more ++ is)) bs e (heard p (more ++ is)) (off-enable more is (n .1) h) ∙ off-stores more is (n .1) h
+
+  -- a WRITE with a whole data byte, heard and ended, ends the enable
+  write-ends : (bs : List Bool) (wp : Bool) (is : List Item) (rest : List Bool) (v : ℕ) (vs : List ℕ) → asleep p is ≡ false
+      → reading p bs ≡ command WRITE rest → dataBytes p rest ≡ v ∷ vs → enabled p (heard p (selection bs (ended wp) ∷ is)) ≡ false
+  write-ends bs wp is rest v vs a r d = rw (a, r, d)
+
+-- ---- old or new
+
+-- memory and permitted writes before and after an event: both as before, or both with the same byte more
+pub data OldOrNew (m m′ : List ℕ) (ws ws′ : List Store) : Type 0 where
+  old : m′ ≡ m → ws′ ≡ ws → OldOrNew m m′ ws ws′
+  new : (w : Store) → m′ ≡ set m (w .address) (w .value) → ws′ ≡ ws ++ (w ∷ []) → OldOrNew m m′ ws ws′
+
+by-write : (first : List ℕ) (ws ws′ : List Store) (w : Write) → ws′ ≡ ws ++ storesOf w → OldOrNew (stored first ws) (stored first ws′) ws ws′
+by-write first ws ws′ Nothing e = let q = e ∙ append-nil ws in old (ap (stored first) q) q
+by-write first ws ws′ (Byte a v) e = new (record { address = a; value = v }) (ap (stored first) e ∙ stored-append first ws _) e
+
+module _ (part pins bits : ℕ) (first : List ℕ) where
+  abbrev pub model : Model
+  model = madeBy part pins bits
+
+  abbrev pub row : Part
+  row = partOf (model .part)
+
+  -- memory, permitted writes, and on SPI the selections, after a list of events on a model just made
+  abbrev pub memoryOf : List (List ℕ) → List ℕ
+  memoryOf es = memoryAfter model first es
+
+  abbrev pub writesOf : List (List ℕ) → List Store
+  writesOf es = ledgerStores model (historyOf model first es)
+
+  abbrev pub itemsOf : List (List ℕ) → List Item
+  itemsOf es = items (historyOf model first es)
+
+  memory-of : (es : List (List ℕ)) → memoryOf es ≡ stored first (writesOf es)
+  memory-of es = list-memory model first (made-in part pins bits) (made-off part pins bits) es
+
+  same-writes : (es ks : List (List ℕ)) → writesOf ks ≡ writesOf es → memoryOf ks ≡ memoryOf es
+  same-writes es ks e = memory-of ks ∙ ap (stored first) e ∙ sym (memory-of es)
+
+  module _ (spi : isSpi (row .bus) ≡ true) (es ks : List (List ℕ)) where
+    -- after a list that leaves the enable off, further events that add one selection, whatever its bits, leave the memory as it was
+    pub no-enable-no-store : (bs : List Bool) (e : End) → enabled row (heard row (itemsOf es)) ≡ false
+        → itemsOf (es ++ ks) ≡ selection bs e ∷ itemsOf es → memoryOf (es ++ ks) ≡ memoryOf es
+    no-enable-no-store bs e h q =
+        same-writes es (es ++ ks)
+        (rw (spi, q) (one-stores row (savedIn (model .status)) (asleep row (itemsOf es)) bs e (heard row (itemsOf es)) h))
+
+    -- and so do any number of selections, power offs and power ons, as long as none is a WREN
+    pub no-wren-no-store : (more : List Item) → enabled row (heard row (itemsOf es)) ≡ false
+        → itemsOf (es ++ ks) ≡ more ++ itemsOf es → NoWren row more → memoryOf (es ++ ks) ≡ memoryOf es
+    no-wren-no-store more h q n =
+        same-writes es (es ++ ks) (rw (spi, q) (off-stores row (savedIn (model .status)) more (itemsOf es) n h))
+
+    -- after a list whose last selection was a WRITE with a whole data byte, heard and ended, nothing is stored until a WREN: a second
+    -- WRITE stores nothing
+    pub one-enable-one-write : (bs : List Bool) (wp : Bool) (is : List Item) (rest : List Bool) (v : ℕ) (vs : List ℕ) (more : List Item)
+        → itemsOf es ≡ selection bs (ended wp) ∷ is → asleep row is ≡ false → reading row bs ≡ command WRITE rest → dataBytes row rest ≡ v ∷ vs
+        → itemsOf (es ++ ks) ≡ more ++ itemsOf es → NoWren row more → memoryOf (es ++ ks) ≡ memoryOf es
+    one-enable-one-write bs wp is rest v vs more i a r d q n =
+        no-wren-no-store more (rw i (write-ends row (savedIn (model .status)) bs wp is rest v vs a r d)) q n
+
+  -- ---- one event more
+
+  module _ (es : List (List ℕ)) (t : List ℕ) where
+    fed-grows : (y : Bool) (r : Read) (a : ℕ) (h : List Entry)
+        → Grown (ledgerStores model h) (ledgerStores model (cond y (withEvent r a h) h))
+    fed-grows true (Whole e n) a h =
+        ledger-grows model (part-fits (model .part) (model-in model (made-in part pins bits .0) .known) .wide) e a h
+    fed-grows true (Refused r) a h = (Nothing, sym (append-nil (ledgerStores model h)))
+    fed-grows false r a h = (Nothing, sym (append-nil (ledgerStores model h)))
+
+    grows : Grown (writesOf es) (writesOf (es ++ (t ∷ [])))
+    grows =
+        let x : Seen = shown (eventOf (modelAfter model first es) (memoryOf es) t) in
+        rw (fed-join row es (t ∷ []) model first []) (fed-grows (eqb (x .number) 0) (readOf row t) (x .answer) (historyOf model first es))
+
+    -- for every list and one more event: memory and ledger are as before, or both got one byte at one address, the same
+    pub old-or-new : OldOrNew (memoryOf es) (memoryOf (es ++ (t ∷ []))) (writesOf es) (writesOf (es ++ (t ∷ [])))
+    old-or-new =
+        rw (memory-of es, memory-of (es ++ (t ∷ []))) (by-write first (writesOf es) (writesOf (es ++ (t ∷ []))) (grows .0) (grows .1))
+
+  -- a cut changes no byte
+  pub cut-keeps-memory : (es : List (List ℕ)) → memoryOf (thenCut es) ≡ memoryOf es
+  cut-keeps-memory es = memory-join es (cut ∷ []) model first ∙ cut-memory (modelAfter model first es) (memoryOf es)
+
+  -- and without power it changes nothing: not the state, not the memory, not what the ledger was fed
+  pub cut-without-power : (es : List (List ℕ)) → modelAfter model first es .bus ≡ Unpowered
+      → (modelAfter model first (thenCut es) ≡ modelAfter model first es)
+      × (memoryOf (thenCut es) ≡ memoryOf es)
+      × (historyOf model first (thenCut es) ≡ historyOf model first es)
+  cut-without-power es e =
+      let r = cut-refused (modelAfter model first es) (memoryOf es) e in
+      (model-join es (cut ∷ []) model first ∙ r .1, cut-keeps-memory es, fed-join row es (cut ∷ []) model first [] ∙ rw (r .0))

@@ -1,0 +1,12 @@
+pub mod Ranges
+pub mod Reached
+pub mod Numbers
+pub mod Stays
+pub mod Joins
+pub mod Runs
+pub mod Agrees
+pub mod Steps
+pub mod Demand3
+pub mod Grows
+pub mod Corollaries
+pub mod BitSteps

@@ -1,0 +1,138 @@
+-- For a state that the build's own calls reach from a making, refused or not, no event and no run gives number 1 or 2, and with a
+-- memory of the wrong length every event gives 3 and changes nothing. From the ranges of such states and the order of the tests.
+-- Assumes nothing.
+use Prim.Native.Nat.{ℕ, zero, suc}
+use mathlib.Core.Path.{_≡_, refl}
+use mathlib.Core.Bool.{Bool, true, false, cond}
+use mathlib.Core.List.{List}
+use lib.Dec.{eqb, ltb}
+use lib.ListN.{length, drop, getD}
+use borrow.Author.Tests.{eqb-false, ne-eqb}
+use Rattle.parts.specs.declared.answer.Answer.{Answer}
+use Rattle.parts.specs.declared.part.Part.{Part}
+use Rattle.parts.specs.declared.refusal.Refusal.the-variants as R
+use Rattle.parts.specs.Numbers.{answerNumber, refusalNumber}
+use Rattle.parts.specs.Table.{partOf}
+use Rattle.trace.specs.declared.event.Event.{Event}
+use Rattle.trace.specs.declared.event.Event.the-variants.{SpiPowerOn, I2cPowerOn, PowerOff, Sample, Expected}
+use Rattle.trace.specs.declared.read.Read.{Read}
+use Rattle.trace.specs.declared.read.Read.the-variants.{Whole, Refused}
+use Rattle.trace.specs.Event.{fieldsIn}
+use Rattle.trace.specs.Read as Trace
+use Rattle.spi.specs.Show as SpiShow
+use Rattle.i2c.specs.Sample as I2cSample
+use Rattle.chip.specs.declared.check.Verdict.the-variants.{Passed, Failed}
+use Rattle.chip.specs.declared.model.BusState.{BusState}
+use Rattle.chip.specs.declared.model.BusState.the-variants.{Unpowered, SpiOn, I2cOn}
+use Rattle.chip.specs.declared.model.Model.{Model}
+use Rattle.chip.specs.Event.{keeping, accepted, refused, expected, advanceOn, advanceOf}
+use Rattle.model.specs.Event as One
+use Rattle.model.specs.Event.{onRead, eventOf}
+use Rattle.model.specs.Run as Many
+use Rattle.model.specs.Run.{Run, stop, after, loopOf, runOf}
+use Rattle.promise.proofs.Reached.{Reached, by-event, reached-check}
+
+-- neither 1 nor 2
+abbrev Late : ℕ → Type 0
+Late n = (eqb n 1 ≡ false) × (eqb n 2 ≡ false)
+
+abbrev LateRead : Read → Type 0
+LateRead (Whole e n) = Unit {0}
+LateRead (Refused r) = Late (refusalNumber r)
+
+-- ---- the reader gives 4, 5 or 6
+
+read-late : (p : Part) (t : List ℕ) → LateRead (Trace.readOf p t)
+unfolding Trace.readOf
+read-late p t =
+    by (eqb (length t) 0) (Trace.knownKind (p .bus) (getD t 0 0)) (ltb (length t) (Trace.eventLength (getD t 0 0)))
+    (fieldsIn p (Trace.eventOf (getD t 0 0) t)) (Trace.eventOf (getD t 0 0) t) (Trace.eventLength (getD t 0 0))
+  where
+    by : (a b c d : Bool) (e : Event) (n : ℕ)
+        → LateRead (cond a (Refused R.Truncated) (cond b (cond c (Refused R.Truncated) (cond d (Whole e n) (Refused R.FieldRange))) (Refused R.UnknownKind)))
+    by true b c d e n = (refl, refl)
+    by false true true d e n = (refl, refl)
+    by false true false true e n = tt
+    by false true false false e n = (refl, refl)
+    by false false c d e n = (refl, refl)
+
+-- ---- an event that was read gives 0, 7, 8 or 9
+
+expected-late : (s : Model) (a : Answer) (v : ℕ) → Late (expected s a v .number)
+expected-late s a v = by (eqb v (answerNumber a))
+  where
+    by : (y : Bool) → Late (cond y (accepted a s) (refused R.Unexpected s) .number)
+    by true = (refl, refl)
+    by false = (refl, refl)
+
+advance-late : (b : BusState) (p : Part) (s : Model) (m : List ℕ) (e : Event) → Late (advanceOn b p s m e .result .number)
+advance-late Unpowered p s m (SpiPowerOn x) = (refl, refl)
+advance-late Unpowered p s m (I2cPowerOn x a) = (refl, refl)
+advance-late Unpowered p s m PowerOff = (refl, refl)
+advance-late Unpowered p s m (Sample x) = (refl, refl)
+advance-late Unpowered p s m (Expected v) = (refl, refl)
+advance-late (SpiOn x) p s m (SpiPowerOn v) = (refl, refl)
+advance-late (SpiOn x) p s m (I2cPowerOn v a) = (refl, refl)
+advance-late (SpiOn x) p s m PowerOff = (refl, refl)
+advance-late (SpiOn x) p s m (Sample v) = (refl, refl)
+advance-late (SpiOn x) p s m (Expected v) = expected-late s (SpiShow.answerAt (x .last) (x .shown)) v
+advance-late (I2cOn x) p s m (SpiPowerOn v) = (refl, refl)
+advance-late (I2cOn x) p s m (I2cPowerOn v a) = (refl, refl)
+advance-late (I2cOn x) p s m PowerOff = (refl, refl)
+advance-late (I2cOn x) p s m (Sample v) = (refl, refl)
+advance-late (I2cOn x) p s m (Expected v) = expected-late s (I2cSample.answerOf (x .pulling)) v
+
+-- ---- any bytes on a reached state
+
+on-read : (r : Read) (s : Model) (m : List ℕ) → LateRead r → Late (onRead r s m .result .number)
+unfolding advanceOf
+on-read (Whole e n) s m h = advance-late (s .bus) (partOf (s .part)) s m e
+on-read (Refused r) s m h = h
+
+event-late : {s : Model} → Reached s → (m t : List ℕ) → Late (eventOf s m t .result .number)
+unfolding eventOf
+event-late {s} r m t = rw (reached-check r (length m)) (by (eqb (length m) (partOf (s .part) .size)))
+  where
+    by : (y : Bool) → Late (One.onVerdict (cond y Passed (Failed R.MemoryLength)) s m t .result .number)
+    by true = on-read (Trace.readOf (partOf (s .part)) t) s m (read-late (partOf (s .part)) t)
+    by false = (refl, refl)
+
+loop-late : (quota : ℕ) (t : List ℕ) (s : Model) (m : List ℕ) → Reached s → Late (loopOf quota t s m .number)
+unfolding loopOf
+loop-late zero t s m r = (refl, refl)
+loop-late (suc quota) t s m r =
+    by (eqb (length t) 0) (eqb (eventOf s m t .result .number) 0)
+    (loop-late quota (drop (Trace.eventLength (getD t 0 0)) t) (eventOf s m t .result .model) (eventOf s m t .memory) (by-event m t r))
+  where
+    rest : Run
+    rest = loopOf quota (drop (Trace.eventLength (getD t 0 0)) t) (eventOf s m t .result .model) (eventOf s m t .memory)
+
+    by : (a b : Bool) → Late (rest .number)
+        → Late (cond a (stop 0 s m) (cond b (after (eventOf s m t .result .answer) (Trace.eventLength (getD t 0 0)) rest) (stop (eventOf s m t .result .number) s m)) .number)
+    by true b h = (refl, refl)
+    by false true h = h
+    by false false h = event-late r m t
+
+run-late : {s : Model} → Reached s → (quota : ℕ) (t m : List ℕ) → Late (runOf quota t s m .number)
+unfolding runOf
+run-late {s} r quota t m = rw (reached-check r (length m)) (by (eqb (length m) (partOf (s .part) .size)))
+  where
+    by : (y : Bool) → Late (Many.onVerdict (cond y Passed (Failed R.MemoryLength)) quota t s m .number)
+    by true = loop-late quota t s m r
+    by false = (refl, refl)
+
+-- ---- in plain words
+
+pub event-never-one-or-two : {s : Model} → Reached s → (m t : List ℕ)
+    → (eventOf s m t .result .number ≡ 1 → ⊥) × (eventOf s m t .result .number ≡ 2 → ⊥)
+event-never-one-or-two r m t = let h = event-late r m t in (eqb-false _ 1 (h .0), eqb-false _ 2 (h .1))
+
+pub run-never-one-or-two : {s : Model} → Reached s → (quota : ℕ) (t m : List ℕ)
+    → (runOf quota t s m .number ≡ 1 → ⊥) × (runOf quota t s m .number ≡ 2 → ⊥)
+run-never-one-or-two r quota t m = let h = run-late r quota t m in (eqb-false _ 1 (h .0), eqb-false _ 2 (h .1))
+
+-- number 3, answer 2, the given state and memory
+pub wrong-length : {s : Model} → Reached s → (m t : List ℕ) → (length m ≡ partOf (s .part) .size → ⊥)
+    → eventOf s m t ≡ keeping m (record { number = 3; answer = 2; model = s })
+unfolding eventOf
+wrong-length r m t n = rw (reached-check r (length m), ne-eqb (length m) _ n)

@@ -1,0 +1,60 @@
+-- States that the build's own calls reach from a making, refused or not, are in range, whatever numbers, bytes, quotas and
+-- memories are given: numbers 1 and 2 are never given for them. From the same fact for one event. Assumes nothing.
+use Prim.Native.Nat.{ℕ, zero, suc}
+use mathlib.Core.Path.{_≡_}
+use mathlib.Core.Bool.{Bool, true, false, cond}
+use mathlib.Core.List.{List}
+use lib.Dec.{eqb}
+use lib.ListN.{length, drop, getD}
+use Rattle.parts.specs.declared.refusal.Refusal.the-variants.{MemoryLength}
+use Rattle.parts.specs.Table.{partOf}
+use Rattle.trace.specs.Read.{eventLength}
+use Rattle.chip.specs.declared.check.Verdict.{Verdict}
+use Rattle.chip.specs.declared.check.Verdict.the-variants.{Passed, Failed}
+use Rattle.chip.specs.declared.model.Model.{Model}
+use Rattle.chip.specs.Check.{modelIn, busIn, checkOf}
+use Rattle.model.specs.Event.{eventOf}
+use Rattle.model.specs.Make.{makeOf}
+use Rattle.model.specs.Run.{Run, stop, after, loopOf, onVerdict, runOf}
+use Rattle.promise.proofs.Ranges.{InRange, made-in, event-in}
+
+-- by a making with any numbers, then any events and runs, each on any memory
+pub data Reached : Model → Type 0 where
+  by-making : (part pins bits : ℕ) → Reached (makeOf part pins bits .model)
+  by-event : {s : Model} (m t : List ℕ) → Reached s → Reached (eventOf s m t .result .model)
+  by-run : {s : Model} (quota : ℕ) (t m : List ℕ) → Reached s → Reached (runOf quota t s m .model)
+
+loop-in : (quota : ℕ) (t : List ℕ) (s : Model) (m : List ℕ) → InRange s → InRange (loopOf quota t s m .model)
+unfolding loopOf
+loop-in zero t s m h = h
+loop-in (suc quota) t s m h =
+    by (eqb (length t) 0) (eqb (eventOf s m t .result .number) 0)
+    (loop-in quota (drop (eventLength (getD t 0 0)) t) (eventOf s m t .result .model) (eventOf s m t .memory) (event-in s m t h))
+  where
+    rest : Run
+    rest = loopOf quota (drop (eventLength (getD t 0 0)) t) (eventOf s m t .result .model) (eventOf s m t .memory)
+
+    by : (a b : Bool) → InRange (rest .model)
+        → InRange (cond a (stop 0 s m) (cond b (after (eventOf s m t .result .answer) (eventLength (getD t 0 0)) rest) (stop (eventOf s m t .result .number) s m)) .model)
+    by true b r = h
+    by false true r = r
+    by false false r = h
+
+run-in : (quota : ℕ) (t : List ℕ) (s : Model) (m : List ℕ) → InRange s → InRange (runOf quota t s m .model)
+unfolding runOf
+run-in quota t s m h = by (checkOf s (length m))
+  where
+    by : (v : Verdict) → InRange (onVerdict v quota t s m .model)
+    by Passed = loop-in quota t s m h
+    by (Failed r) = h
+
+pub reached-in-range : {s : Model} → Reached s → (modelIn s ≡ true) × (busIn (partOf (s .part)) (s .status) (s .bus) ≡ true)
+reached-in-range (by-making part pins bits) = made-in part pins bits
+reached-in-range (by-event {s} m t r) = event-in s m t (reached-in-range r)
+reached-in-range (by-run {s} quota t m r) = run-in quota t s m (reached-in-range r)
+
+-- so a reached state fails the tests 1 to 3 only by a memory of the wrong length
+pub reached-check : {s : Model} → Reached s → (length : ℕ)
+    → checkOf s length ≡ cond (eqb length (partOf (s .part) .size)) Passed (Failed MemoryLength)
+unfolding checkOf
+reached-check r n = let h = reached-in-range r in rw (h .0, h .1)

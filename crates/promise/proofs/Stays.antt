@@ -1,0 +1,81 @@
+-- What an event of any bytes leaves as it is: part and pins always, state and memory if it is refused, memory if it is a cut; and
+-- that an accepted one was read whole. From what an event that was read leaves. Assumes nothing.
+use Prim.Native.Nat.{ℕ}
+use mathlib.Core.Path.{_≡_, refl, sym, _∙_}
+use mathlib.Core.Bool.{Bool, true, false, cond, false≢true}
+use mathlib.Core.List.{List}
+use lib.Dec.{eqb}
+use lib.ListN.{length}
+use Rattle.parts.specs.declared.part.Part.{Part}
+use Rattle.parts.specs.Table.{partOf}
+use Rattle.parts.proofs.NumberLaws.{refusal-counts}
+use Rattle.trace.specs.declared.event.Event.{Event}
+use Rattle.trace.specs.declared.event.Event.the-variants.{PowerOff}
+use Rattle.trace.specs.declared.read.Read.{Read}
+use Rattle.trace.specs.declared.read.Read.the-variants.{Whole, Refused}
+use Rattle.trace.specs.Read.{readOf}
+use Rattle.chip.specs.declared.check.Verdict.{Verdict}
+use Rattle.chip.specs.declared.check.Verdict.the-variants.{Passed, Failed}
+use Rattle.chip.specs.declared.model.BusState.{BusState}
+use Rattle.chip.specs.declared.model.BusState.the-variants.{Unpowered, SpiOn, I2cOn}
+use Rattle.chip.specs.declared.model.Model.{Model}
+use Rattle.chip.specs.Check.{checkOf}
+use Rattle.chip.specs.Event.{advanceOn, advanceOf}
+use Rattle.chip.proofs.Stays.{Stays, unchanged, stays}
+use Rattle.model.specs.Event.{onRead, onVerdict, eventOf}
+use Rattle.promise.specs.Promise.{cut}
+
+module _ (s : Model) (m : List ℕ) where
+  -- of any bytes
+  pub event-stays : (t : List ℕ) → Stays s m (eventOf s m t)
+  unfolding eventOf
+  event-stays t = by (checkOf s (length m))
+    where
+      by-read : (r : Read) → Stays s m (onRead r s m)
+      by-read (Whole e n) = stays s m e
+      by-read (Refused r) = unchanged s m _ 2
+
+      by : (v : Verdict) → Stays s m (onVerdict v s m t)
+      by Passed = by-read (readOf (partOf (s .part)) t)
+      by (Failed r) = unchanged s m _ 2
+
+  -- an event is accepted only if the bytes hold a whole one, so every accepted event is fed
+  pub accepted-whole : (t : List ℕ) → eqb (eventOf s m t .result .number) 0 ≡ true → (e : Event) × (n : ℕ) × readOf (partOf (s .part)) t ≡ Whole e n
+  unfolding eventOf
+  accepted-whole t = by (checkOf s (length m))
+    where
+      by-read : (r : Read) → readOf (partOf (s .part)) t ≡ r → eqb (onRead r s m .result .number) 0 ≡ true
+          → (e : Event) × (n : ℕ) × readOf (partOf (s .part)) t ≡ Whole e n
+      by-read (Whole e n) q h = (e, n, q)
+      by-read (Refused r) q h = absurd (false≢true (sym (refusal-counts r) ∙ h))
+
+      by : (v : Verdict) → eqb (onVerdict v s m t .result .number) 0 ≡ true → (e : Event) × (n : ℕ) × readOf (partOf (s .part)) t ≡ Whole e n
+      by Passed h = by-read (readOf (partOf (s .part)) t) refl h
+      by (Failed r) h = absurd (false≢true (sym (refusal-counts r) ∙ h))
+
+  -- ---- a cut
+
+  off-memory : (b : BusState) (p : Part) → advanceOn b p s m PowerOff .memory ≡ m
+  off-memory Unpowered p = refl
+  off-memory (SpiOn x) p = refl
+  off-memory (I2cOn x) p = refl
+
+  -- a cut changes no byte
+  pub cut-memory : eventOf s m cut .memory ≡ m
+  unfolding eventOf readOf advanceOf
+  cut-memory = by (checkOf s (length m))
+    where
+      by : (v : Verdict) → onVerdict v s m cut .memory ≡ m
+      by Passed = off-memory (s .bus) (partOf (s .part))
+      by (Failed r) = refl
+
+  -- without power a cut is refused, and changes nothing
+  pub cut-refused : s .bus ≡ Unpowered
+      → (eqb (eventOf s m cut .result .number) 0 ≡ false) × (eventOf s m cut .result .model ≡ s) × (eventOf s m cut .memory ≡ m)
+  unfolding eventOf readOf advanceOf
+  cut-refused e = by (checkOf s (length m))
+    where
+      by : (v : Verdict)
+          → (eqb (onVerdict v s m cut .result .number) 0 ≡ false) × (onVerdict v s m cut .result .model ≡ s) × (onVerdict v s m cut .memory ≡ m)
+      by Passed = rw e (refl, refl, refl)
+      by (Failed r) = (refusal-counts r, refl, refl)

@@ -1,0 +1,4 @@
+pub mod Lists
+pub mod Fed
+pub mod Ledger
+pub mod Promise

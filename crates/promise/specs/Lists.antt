@@ -1,0 +1,31 @@
+-- A list of events on a state and a memory, each event any bytes, unknown kinds and incomplete ones included: one after the other,
+-- each by the definition of a single event. A refused event does not end the list.
+use Prim.Native.Nat.{ℕ}
+use mathlib.Core.List.{List, [], _∷_}
+use Rattle.chip.specs.declared.model.Model.{Model}
+use Rattle.chip.specs.Event.{Outcome}
+use Rattle.model.specs.Event.{eventOf}
+
+-- what an event shows: its number, its answer, and the memory after it
+pub record Seen : Type 0 where
+  pub number : ℕ
+  pub answer : ℕ
+  pub memory : List ℕ
+
+abbrev pub shown : Outcome → Seen
+shown o = record { number = o .result .number; answer = o .result .answer; memory = o .memory }
+
+-- what each event of a list shows, the first first
+abbrev pub seen : Model → List ℕ → List (List ℕ) → List Seen
+seen s m [] = []
+seen s m (t ∷ es) = shown (eventOf s m t) ∷ seen (eventOf s m t .result .model) (eventOf s m t .memory) es
+
+-- the state after a list
+abbrev pub modelAfter : Model → List ℕ → List (List ℕ) → Model
+modelAfter s m [] = s
+modelAfter s m (t ∷ es) = modelAfter (eventOf s m t .result .model) (eventOf s m t .memory) es
+
+-- the memory after a list
+abbrev pub memoryAfter : Model → List ℕ → List (List ℕ) → List ℕ
+memoryAfter s m [] = m
+memoryAfter s m (t ∷ es) = memoryAfter (eventOf s m t .result .model) (eventOf s m t .memory) es

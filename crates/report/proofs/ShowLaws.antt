@@ -1,0 +1,56 @@
+-- What is shown of a run whose answers went to the front of a room for 65,536 of them. Assumes nothing.
+use Prim.Native.Nat.{ℕ, _≤_}
+use mathlib.Core.Path.{_≡_, sym}
+use mathlib.Core.Bool.{false}
+use mathlib.Core.List.{List}
+use native.Mathlib.Omega.{arith}
+use lib.ListN.{length, take, replicate, length-replicate}
+use lib.Seq.{take-at, length-sets, sets, sets-eq}
+use borrow.Author.Tests.{le-ltb}
+use Rattle.model.specs.declared.make.Made.{Made}
+use Rattle.model.specs.declared.run.Ran.{Ran}
+use Rattle.model.specs.Make.{makeOf}
+use Rattle.model.specs.Run.{Run, ranOf, runOf}
+use Rattle.model.proofs.RunCounts.{Counted, run-counted}
+use Rattle.report.specs.declared.show.Report.{Report}
+use Rattle.report.specs.Report.{unlimited, shownRun, reportOf, textOf, memoryOf}
+use Rattle.report.specs.Text.{text}
+
+-- of a run on a part just made, and of the room for answers after it
+pub record Shown (part : ℕ) (t m : List ℕ) (ran : Ran) (answers memory : List ℕ) : Type 0 where
+  pub short : ran .count ≤ 65536
+  pub fits : ran .count ≤ length answers
+  pub taken : ran .count ≡ length (take (ran .count) answers)
+  pub reported : {n : ℕ} → n ≡ length (text 0 (take (ran .count) answers))
+      → _≡_ {A = Report} (record { long = false; number = ran .number; count = ran .count; offset = ran .offset; length = n }) (reportOf part t m)
+  pub remembered : memory ≡ memoryOf part t m
+  pub written : (out : List ℕ) → sets out 0 (text 0 (take (ran .count) answers)) ≡ sets out 0 (textOf part t m)
+
+-- the answers are found again at the front of any room that is wide enough
+stored : (n : ℕ) (r : Run) (room : List ℕ) → Counted n r → n ≤ length room → take (r .count) (sets room 0 (r .answers)) ≡ r .answers
+stored n r room k wide = rw (sets-eq (r .answers) room 0 (omega (arith, k .answered, k .within))) (take-at (r .answers) _ (r .count) (k .answered))
+
+pub shown : (part : ℕ) (t m : List ℕ) {room : List ℕ} {made : Made} {ran : Ran} {answers memory : List ℕ} → length t ≤ 65536 → made ≡ makeOf part 0 0
+    → room ≡ replicate 65536 0 → ran ≡ ranOf (runOf unlimited t (made .model) m) → memory ≡ runOf unlimited t (made .model) m .memory
+    → answers ≡ sets room 0 (runOf unlimited t (made .model) m .answers) → Shown part t m ran answers memory
+shown part t m {room} {made} {ran} {answers} {memory} few e empty k w a =
+    record {
+      short = short;
+      fits = rw (a, length-sets) (omega (arith, short, wide));
+      taken = rw (again, k, e) (sym (counted .answered));
+      reported = λ {n} h. rw (h, again, k, e, le-ltb _ _ few);
+      remembered = rw (w, e, le-ltb _ _ few);
+      written = λ out. rw (again, le-ltb _ _ few);
+    }
+  where
+    wide : length room ≡ 65536
+    wide = rw (empty, length-replicate)
+
+    counted : Counted (length t) (shownRun part t m)
+    counted = run-counted unlimited t (makeOf part 0 0 .model) m
+
+    short : ran .count ≤ 65536
+    short = rw (k, e) (omega (arith, counted .within))
+
+    again : take (ran .count) answers ≡ shownRun part t m .answers
+    again = rw (a, k, e) (stored (length t) (shownRun part t m) room counted (omega (arith, wide)))
