@@ -3,3 +3,4 @@ pub mod RunLaws
 pub mod RunRule
 pub mod RunCounts
 pub mod Examples
+pub mod SetsLaws

@@ -3,18 +3,14 @@ use Prim.Native.Nat.{ℕ, suc, _+_, _<_, _≤_}
 use mathlib.Core.Path.{_≡_, _∙_}
 use mathlib.Core.Bool.{Bool, true, false, cond}
 use mathlib.Core.List.{List, [], _∷_, _++_}
-use native.Mathlib.Nat.{add-zero, add-suc, suc-add, add-assoc}
+use native.Mathlib.Nat.{add-assoc}
 use native.Mathlib.Numerals.{add-one}
 use native.Mathlib.Omega.{arith}
 use lib.Dec.{eqb}
 use lib.ListN.{length, drop, set, getD, length-append}
 use lib.Seq.{drop-cons, drop-length, sets}
+use Rattle.model.proofs.SetsLaws.{sets-append}
 use Rattle.report.specs.Text.{letter, piece, nextColumn, text}
-
--- bytes stored in two parts
-pub sets-append : (l : List ℕ) (i : ℕ) (vs us : List ℕ) → sets l i (vs ++ us) ≡ sets (sets l i vs) (i + length vs) us
-sets-append l i [] us = rw add-zero
-sets-append l i (a ∷ vs) us = sets-append (set l i a) (suc i) vs us ∙ rw (suc-add, add-suc)
 
 -- an answer takes one or two bytes
 pub piece-short : (column a : ℕ) → length (piece column a) ≤ 2

@@ -25,10 +25,15 @@ abbrev μ-loop : tie.MeasureT-loop
 μ-loop trace quota memory₀ answers₀ part state₀ at₀ count₀ memory answers state at count = quota - count
 
 part-of-requires : tie.Need-part-of-requires Inv-loop μ-loop
-part-of-requires c κs = sound-in (c .before .before .before .before .args .model) (c .before .before .before .before .args .memory .now) (c .before .before .before .before .pre) .model .known
+part-of-requires c κs =
+    let start = c .before .before .before .before in
+    sound-in (start .args .model) (start .args .memory .now) (start .pre) .model .known
 
 loop-holds : tie.Need-loop-holds Inv-loop μ-loop
-loop-holds c = (search needs, search needs, c .before .before .before .before .before .pre, c .part-of .ensures, refl, refl, rw sub-zero (final-start (c .before .before .before .before .before .args .answers .now) (loopOf (c .before .before .before .before .before .args .quota) (c .before .before .before .before .before .args .trace .now) (c .before .before .before .before .before .args .model) (c .before .before .before .before .before .args .memory .now))))
+loop-holds c =
+    let start = c .before .before .before .before .before in
+    let a = start .args in
+    (search needs, search needs, start .pre, c .part-of .ensures, refl, refl, rw sub-zero (final-start (a .answers .now) (loopOf (a .quota) (a .trace .now) (a .model) (a .memory .now))))
 
 returns : tie.Need-returns Inv-loop μ-loop
 returns c =
@@ -38,49 +43,74 @@ returns c =
 
 returns-2 : tie.Need-returns-2 Inv-loop μ-loop
 returns-2 c =
-    let l = c .before .before .before .before .before .before .before .loop in
-    let t = c .before .before .before .before .before .before .before .before .before .before .before .before .before .args .trace .now in
-    let told = read-on (c .before .before .before .before .before .before .before .before .part-of .result) (l .state) t (l .at) (l .inv .3) (sym (c .before .before .before .read-event .ensures) ∙ c .before .enum-told .given .1) in
-    let e = three _ _ (sym (left-unread t _ _ _ (l .state) (l .memory) (l .answers) (l .inv .2) (c .before .before .before .before .before .before .loop-test .taken) (c .before .before .before .before .before .if1 .left) _ told) ∙ l .inv .6) in
+    let read = c .before .before .before in
+    let turn = read .before .before .before in
+    let start = turn .before .before .before .before .before .before .before in
+    let l = turn .before .loop in
+    let t = start .args .trace .now in
+    let told = read-on (turn .before .before .part-of .result) (l .state) t (l .at) (l .inv .3) (sym (read .read-event .ensures) ∙ c .before .enum-told .given .1) in
+    let e = three _ _ (sym (left-unread t _ _ _ (l .state) (l .memory) (l .answers) (l .inv .2) (turn .loop-test .taken) (read .before .before .if1 .left) _ told) ∙ l .inv .6) in
     (c .stopped .ensures ∙ simp (c .before .enum-told .given .1) (e .0), (e .1, e .2))
 
 add-past : tie.Need-add-past Inv-loop μ-loop
 add-past c =
-    let l = c .before .before .before .before .before .before .before .loop in
-    let t = c .before .before .before .before .before .before .before .before .before .before .before .before .before .args .trace .now in
-    let told = read-on (c .before .before .before .before .before .before .before .before .part-of .result) (l .state) t (l .at) (l .inv .3) (sym (c .before .before .before .read-event .ensures) ∙ c .before .read .given .1) in
+    let read = c .before .before .before in
+    let turn = read .before .before .before in
+    let start = turn .before .before .before .before .before .before .before in
+    let l = turn .before .loop in
+    let t = start .args .trace .now in
+    let told = read-on (turn .before .before .part-of .result) (l .state) t (l .at) (l .inv .3) (sym (read .read-event .ensures) ∙ c .before .read .given .1) in
     omega (arith, taken-within _ _ _ _ told, length-drop (l .at) t)
 
 same-length-5 : tie.Need-same-length-5 Inv-loop μ-loop
-same-length-5 c = c .before .before .before .before .before .advance .kept .1 .1 .0 ∙ c .before .before .before .before .before .before .before .before .before .before .before .before .before .before .loop .inv .4
+same-length-5 c =
+    let done = c .before .before .before .before .before in
+    done .advance .kept .1 .1 .0 ∙ done .before .before .before .before .before .before .before .before .before .loop .inv .4
 
 same-length-6 : tie.Need-same-length-6 Inv-loop μ-loop
-same-length-6 c = c .before .before .before .before .before .before .before .before .before .before .before .before .before .before .loop .inv .5
+same-length-6 c =
+    let done = c .before .before .before .before .before in
+    done .before .before .before .before .before .before .before .before .before .loop .inv .5
 
 returns-3 : tie.Need-returns-3 Inv-loop μ-loop
 returns-3 c =
-    let l = c .before .before .before .before .before .before .before .before .before .before .before .before .before .before .loop in
-    let t = c .before .before .before .before .before .before .before .before .before .before .before .before .before .before .before .before .before .before .before .before .args .trace .now in
-    let told = read-on (c .before .before .before .before .before .before .before .before .before .before .before .before .before .before .before .part-of .result) (l .state) t (l .at) (l .inv .3) (sym (c .before .before .before .before .before .before .before .before .before .before .read-event .ensures) ∙ c .before .before .before .before .before .before .before .before .read .given .1) in
-    let a = c .before .before .before .before .before .advance .ensures in
-    let e = three _ _ (sym (left-unmoved t _ _ _ (l .state) (l .memory) (l .answers) (l .inv .2) (c .before .before .before .before .before .before .before .before .before .before .before .before .before .loop-test .taken) (c .before .before .before .before .before .before .before .before .before .before .before .before .if1 .left) _ _ told _ _ (a .0) (a .1) (c .before .if2 .taken)) ∙ l .inv .6) in
+    let done = c .before .before .before .before .before in
+    let read = done .before .before .before .before .before in
+    let turn = read .before .before .before in
+    let start = turn .before .before .before .before .before .before .before in
+    let l = turn .before .loop in
+    let t = start .args .trace .now in
+    let told = read-on (turn .before .before .part-of .result) (l .state) t (l .at) (l .inv .3) (sym (read .read-event .ensures) ∙ done .before .before .before .read .given .1) in
+    let a = done .advance .ensures in
+    let e = three _ _ (sym (left-unmoved t _ _ _ (l .state) (l .memory) (l .answers) (l .inv .2) (turn .loop-test .taken) (read .before .before .if1 .left) _ _ told _ _ (a .0) (a .1) (c .before .if2 .taken)) ∙ l .inv .6) in
     (c .ended2 .ensures ∙ e .0, (e .1, e .2))
 
 add-count : tie.Need-add-count Inv-loop μ-loop
-add-count c = omega (arith, c .before .before .before .before .before .before .before .before .before .before .before .before .before .before .before .before .before .loop-test .taken, c .before .before .before .before .before .before .before .before .before .before .before .before .before .before .before .before .before .before .before .before .before .before .before .before .fits .quota)
+add-count c =
+    let turn = c .before .before .before .before .before .before .before .before .before .before .before .before .before .before .before .before .before in
+    omega (arith, turn .loop-test .taken, turn .before .before .before .before .before .before .before .fits .quota)
 
 loop-again : tie.Need-loop-again Inv-loop μ-loop
 loop-again c =
-    let l = c .before .before .before .before .before .before .before .before .before .before .before .before .before .before .before .before .before .before .loop in
-    let t = c .before .before .before .before .before .before .before .before .before .before .before .before .before .before .before .before .before .before .before .before .before .before .before .before .args .trace .now in
-    let told = read-on (c .before .before .before .before .before .before .before .before .before .before .before .before .before .before .before .before .before .before .before .part-of .result) (l .state) t (l .at) (l .inv .3) (sym (c .before .before .before .before .before .before .before .before .before .before .before .before .before .before .read-event .ensures) ∙ c .before .before .before .before .before .before .before .before .before .before .before .before .read .given .1) in
-    let a = c .before .before .before .before .before .before .before .before .before .advance .ensures in
-    let test = c .before .before .before .before .before .before .before .before .before .before .before .before .before .before .before .before .before .loop-test .taken in
-    let inside = c .before .before .before .before .before .before .before .before .before .before .before .before .before .before .before .before .if1 .left in
-    let moved = left-moved t _ _ _ (l .state) (l .memory) (l .answers) (l .inv .2) test inside _ _ told _ _ (a .0) (a .1) (c .before .before .before .before .before .if2 .left) in
-    let sound = moved-sound t _ _ _ (l .state) (l .memory) (l .answers) (l .inv .2) test inside _ _ told _ _ (a .0) (a .1) in
-    let part = moved-part t _ _ _ (l .state) (l .memory) (l .answers) (l .inv .2) test inside _ _ told _ _ (a .0) (a .1) in
-    (omega (arith, test), omega (arith, taken-within _ _ _ _ told, length-drop (l .at) t, inside), sound, l .inv .3 ∙ ap partOf (sym part), c .before .before .before .before .before .before .before .before .before .advance .kept .1 .1 .0 ∙ l .inv .4, c .before .before .before .note .kept .0 ∙ l .inv .5, rw (c .before .before .before .note .ensures) (sym moved ∙ l .inv .6))
+    let done = c .before .before .before .before .before .before .before .before .before in
+    let read = done .before .before .before .before .before in
+    let turn = read .before .before .before in
+    let start = turn .before .before .before .before .before .before .before in
+    let l = turn .before .loop in
+    let t = start .args .trace .now in
+    let told = read-on (turn .before .before .part-of .result) (l .state) t (l .at) (l .inv .3) (sym (read .read-event .ensures) ∙ done .before .before .before .read .given .1) in
+    let a = done .advance .ensures in
+    let moved = left-moved t _ _ _ (l .state) (l .memory) (l .answers) (l .inv .2) (turn .loop-test .taken) (read .before .before .if1 .left) _ _ told _ _ (a .0) (a .1) (c .before .before .before .before .before .if2 .left) in
+    let part = moved-part t _ _ _ (l .state) (l .memory) (l .answers) (l .inv .2) (turn .loop-test .taken) (read .before .before .if1 .left) _ _ told _ _ (a .0) (a .1) in
+    let noted = c .before .before .before .note in (
+      omega (arith, turn .loop-test .taken),
+      omega (arith, taken-within _ _ _ _ told, length-drop (l .at) t, read .before .before .if1 .left),
+      moved-sound t _ _ _ (l .state) (l .memory) (l .answers) (l .inv .2) (turn .loop-test .taken) (read .before .before .if1 .left) _ _ told _ _ (a .0) (a .1),
+      l .inv .3 ∙ ap partOf (sym part),
+      done .advance .kept .1 .1 .0 ∙ l .inv .4,
+      noted .kept .0 ∙ l .inv .5,
+      rw (noted .ensures) (sym moved ∙ l .inv .6),
+    )
 
 returns-4 : tie.Need-returns-4 Inv-loop μ-loop
 returns-4 c =

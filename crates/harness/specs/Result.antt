@@ -1,0 +1,19 @@
+-- Count and offset, eight bytes each, most significant first, in a buffer of exactly sixteen bytes.
+use Prim.Native.Nat.{ℕ, zero, suc, _*_, _/_, _%_, _^_}
+use mathlib.Core.Bool.{cond}
+use mathlib.Core.List.{List, [], _∷_, _++_}
+use lib.Dec.{eqb}
+use lib.ListN.{length}
+
+-- byte k of a number, the least significant being byte 0
+abbrev pub byteOf : ℕ → ℕ → ℕ
+byteOf n k = n / 2 ^ (8 * k) % 256
+
+-- the k low bytes of a number, most significant first
+abbrev pub bytesOf : ℕ → ℕ → List ℕ
+bytesOf zero n = []
+bytesOf (suc k) n = byteOf n k ∷ bytesOf k n
+
+-- a buffer of another length is left as it is
+abbrev pub resultIn : ℕ → ℕ → List ℕ → List ℕ
+resultIn count offset buffer = cond (eqb (length buffer) 16) (bytesOf 8 count ++ bytesOf 8 offset) buffer
