@@ -1,5 +1,6 @@
 // One event of a model that passed the tests of its state and memory.
 ghost use mathlib.Core.Path.{_≡_};
+ghost use Rattle.parts.specs.Table.{partOf};
 ghost use Rattle.spi.specs.Sample as SpiSample;
 ghost use Rattle.i2c.specs.Sample as I2cSample;
 ghost use Rattle.chip.specs.Model.{modelOf};
@@ -161,13 +162,12 @@ fn on_i2c(part: Part, model: Model, i2c: I2c, event: Event, memory: &mut [u8]) -
     }
 }
 
-// One event: refused with 7, 8 or 9, or taken.
-pub fn advance(model: Model, event: Event, memory: &mut [u8]) -> Answered
-    requires { ⌜ Sound model (now memory) ⌝ }
+// One event of a part with these constants: refused with 7, 8 or 9, or taken.
+pub fn advance(part: Part, model: Model, event: Event, memory: &mut [u8]) -> Answered
+    requires { ⌜ (part ≡ partOf (model .part)) × Sound model (now memory) ⌝ }
     ensures { λ r. ⌜ r ≡ advanceOf model (now (memory .entry)) event .result ⌝ }
     ensures { λ r. ⌜ now (memory .exit) ≡ advanceOf model (now (memory .entry)) event .memory ⌝ }
 {
-    let part = parts::part::part_of(model.part as usize);
     let bus = model.bus;
     match bus {
         BusState::Unpowered => on_unpowered(model, event),

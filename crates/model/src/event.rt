@@ -15,7 +15,7 @@ fn checked_event(model: Model, bytes: &[u8], memory: &mut [u8]) -> Answered
 {
     let part = parts::part::part_of(model.part as usize);
     match trace::read::read_event(part, bytes) {
-        Read::Whole { event, taken: _ } => chip::event::advance(model, event, memory),
+        Read::Whole { event, taken: _ } => chip::event::advance(part, model, event, memory),
         Read::Refused { refusal } => chip::event::refuse(refusal, model),
     }
 }

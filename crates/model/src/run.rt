@@ -72,7 +72,7 @@ fn replay_checked(
             return stopped(read, state, count, at);
         };
         let past = at + taken;
-        let answered = chip::event::advance(state, event, &mut *memory);
+        let answered = chip::event::advance(part, state, event, &mut *memory);
         if answered.number != 0 {
             return ended(answered.number, state, count, at);
         }

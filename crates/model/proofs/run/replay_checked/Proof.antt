@@ -65,7 +65,7 @@ add-past c =
 same-length-5 : tie.Need-same-length-5 Inv-loop μ-loop
 same-length-5 c =
     let done = c .before .before .before .before .before in
-    done .advance .kept .1 .1 .0 ∙ done .before .before .before .before .before .before .before .before .before .loop .inv .4
+    done .advance .kept .1 .1 .1 .0 ∙ done .before .before .before .before .before .before .before .before .before .loop .inv .4
 
 same-length-6 : tie.Need-same-length-6 Inv-loop μ-loop
 same-length-6 c =
@@ -107,7 +107,7 @@ loop-again c =
       omega (arith, taken-within _ _ _ _ told, length-drop (l .at) t, read .before .before .if1 .left),
       moved-sound t _ _ _ (l .state) (l .memory) (l .answers) (l .inv .2) (turn .loop-test .taken) (read .before .before .if1 .left) _ _ told _ _ (a .0) (a .1),
       l .inv .3 ∙ ap partOf (sym part),
-      done .advance .kept .1 .1 .0 ∙ l .inv .4,
+      done .advance .kept .1 .1 .1 .0 ∙ l .inv .4,
       noted .kept .0 ∙ l .inv .5,
       rw (noted .ensures) (sym moved ∙ l .inv .6),
     )
