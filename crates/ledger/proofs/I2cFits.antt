@@ -30,7 +30,7 @@ use Rattle.ledger.proofs.I2cReads.{after, after-more, wrote-more, span-
 -- ---- the edge that the part goes by is the one that the wires show
 
 -- the wires' line is the part's, where the answer tells of its pull
-line-heard : (l : Levels) (pulling : Bool) → wiresAt l (answerNumber (answerOf pulling)) .line ≡ lineOf (l .sda) pulling
+pub line-heard : (l : Levels) (pulling : Bool) → wiresAt l (answerNumber (answerOf pulling)) .line ≡ lineOf (l .sda) pulling
 line-heard l pulling = by (l .sda) pulling
   where
     by : (x q : Bool) → wiresAt (record { scl = l .scl; sda = x; wp = l .wp }) (answerNumber (answerOf q)) .line ≡ lineOf x q
@@ -41,7 +41,7 @@ line-heard l pulling = by (l .sda) pulling
 
 module _ (p : Part) (pins : ℕ) (m : List ℕ) where
   -- an answer tells of the pull after its sample
-  answer-is : (e : Edge) (s : I2c) (l : Levels) → stepOn e p pins s l m .answer ≡ answerOf (stepOn e p pins s l m .i2c .pulling)
+  pub answer-is : (e : Edge) (s : I2c) (l : Levels) → stepOn e p pins s l m .answer ≡ answerOf (stepOn e p pins s l m .i2c .pulling)
   answer-is Start s l = refl
   answer-is Stop s l = refl
   answer-is (Rise line) s l = refl
@@ -63,7 +63,7 @@ module _ (p : Part) (pins : ℕ) (m : List ℕ) where
   same-pull false true q x y v w b ph = refl
   same-pull false false q x y v w b ph = refl
 
-  same-edge : (s : I2c) (l : Levels)
+  pub same-edge : (s : I2c) (l : Levels)
       → let e : Edge = edgeOf (s .pulling) (s .last) l in
       edgeBetween (wiresAt (s .last) (answerNumber (answerOf (s .pulling)))) (wiresAt l (answerNumber (stepOn e p pins s l m .answer))) ≡ e
   same-edge s l =

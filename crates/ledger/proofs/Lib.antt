@@ -6,3 +6,8 @@ pub mod SpiSelections
 pub mod I2cReads
 pub mod I2cFits
 pub mod I2cSpans
+pub mod I2cShows
+pub mod I2cAnswers
+pub mod I2cSends
+pub mod I2cNines
+pub mod I2cSays

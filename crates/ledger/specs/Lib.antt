@@ -3,3 +3,4 @@ pub mod Stores
 pub mod History
 pub mod SpiLedger
 pub mod I2cLedger
+pub mod I2cAnswers

@@ -89,7 +89,7 @@ module _ (made : Model) (first : List ℕ) where
           agrees = event-agrees made first st m h (part-fits (made .part) (model-in made (inside .0) .known)) b e u f;
         }
 
-    step : (s : Model) (m : List ℕ) (h : List Entry) (e : Event) → Fits s m h → Sound s m → Suits part e → StepAt s m h e
+    pub step : (s : Model) (m : List ℕ) (h : List Entry) (e : Event) → Fits s m h → Sound s m → Suits part e → StepAt s m h e
     step s m h e f c u =
         let q : s ≡ modelOf (made .part) (made .pins) (s .status) (s .bus) =
         ap₂ (λ (x y : ℕ). modelOf x y (s .status) (s .bus)) (f .part-is) (f .pins-are) in
@@ -110,7 +110,7 @@ module _ (made : Model) (first : List ℕ) where
     start-memory false q = rw q
 
     module _ (e : made .bus ≡ Unpowered) where
-      start : Fits made first []
+      pub start : Fits made first []
       start =
           record {
             part-is = refl;

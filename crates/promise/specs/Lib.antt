@@ -2,3 +2,4 @@ pub mod Lists
 pub mod Fed
 pub mod Ledger
 pub mod Promise
+pub mod I2cAnswers

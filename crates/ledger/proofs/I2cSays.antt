@@ -1,0 +1,70 @@
+-- What the definition of the answers says, sentence by sentence: at each kind of event, and at a fall of SCL after the rises of a
+-- span. From the definition. Assumes nothing.
+use Prim.Native.Nat.{ℕ}
+use mathlib.Core.Path.{_≡_, refl}
+use mathlib.Core.Bool.{Bool, true, false}
+use mathlib.Core.List.{List, [], _∷_}
+use Rattle.parts.specs.declared.part.Part.{Part}
+use Rattle.trace.specs.declared.event.Event.the-variants.{I2cPowerOn, PowerOff, Sample, Expected}
+use Rattle.i2c.specs.declared.buffer.AddressBuffer.{AddressBuffer}
+use Rattle.i2c.specs.declared.edge.Edge.the-variants.{Start, Stop, Fall}
+use Rattle.i2c.specs.declared.word.DeviceWord.the-variants.{WriteWord, OtherWord}
+use Rattle.i2c.specs.Levels.{levelsOf}
+use Rattle.i2c.specs.Word.{wordOf}
+use Rattle.ledger.specs.Bits.{number}
+use Rattle.ledger.specs.History.{Entry}
+use Rattle.ledger.specs.I2cLedger.{Clock, wiresAt, edgeBetween, lastWires, items}
+use Rattle.ledger.specs.I2cAnswers.{Nine, nines, unfinished, eighth, isOwn, after, fallIn, pullsSince, memoryOf, bufferBefore, pulls, pullAnswer, presentAnswer, i2cAnswer}
+
+module _ (p : Part) (pins : ℕ) (first : List ℕ) (h : List Entry) where
+  -- an event after the history h, whatever answer it is entered with
+  abbrev to : Entry → ℕ
+  to e = i2cAnswer p pins first (e ∷ h)
+
+  -- power on and power off answer 2
+  pub power-on-two : (x a answer : ℕ) → to (record { event = I2cPowerOn x a; answer = answer }) ≡ 2
+  power-on-two x a answer = refl
+
+  pub power-off-two : (answer : ℕ) → to (record { event = PowerOff; answer = answer }) ≡ 2
+  power-off-two answer = refl
+
+  -- an expected answer is compared with the present answer, which it returns
+  pub expected-present : (v answer : ℕ) → to (record { event = Expected v; answer = answer }) ≡ pullAnswer (pulls p pins first h)
+  expected-present v answer = refl
+
+  -- START and STOP release the line
+  pub start-two : (x answer : ℕ) → edgeBetween (lastWires h) (wiresAt (levelsOf x) (presentAnswer h)) ≡ Start
+      → to (record { event = Sample x; answer = answer }) ≡ 2
+  start-two x answer e = rw e
+
+  pub stop-two : (x answer : ℕ) → edgeBetween (lastWires h) (wiresAt (levelsOf x) (presentAnswer h)) ≡ Stop
+      → to (record { event = Sample x; answer = answer }) ≡ 2
+  stop-two x answer e = rw e
+
+  -- at a fall of SCL the part does what the rises of the open span say
+  pub fall-pulls : (x answer : ℕ) → edgeBetween (lastWires h) (wiresAt (levelsOf x) (presentAnswer h)) ≡ Fall
+      → to (record { event = Sample x; answer = answer })
+      ≡ pullAnswer (pullsSince p pins (memoryOf p pins first h) (bufferBefore p pins h) (fallIn (items h)))
+  fall-pulls x answer e = rw e
+
+-- after the rises ks of a span
+module _ (p : Part) (pins : ℕ) (m : List ℕ) (b : AddressBuffer) (ks : List Clock) where
+  abbrev pulled : Bool
+  pulled = pullsSince p pins m b (after ks)
+
+  -- the first byte is acknowledged after its eighth rise if it is an own word
+  pub word-acknowledged : nines ks ≡ [] → eighth (unfinished ks) ≡ true → pulled ≡ isOwn (wordOf p pins (number (unfinished ks)))
+  word-acknowledged n e = rw (n, e)
+
+  -- before it nothing is pulled
+  pub word-waits : nines ks ≡ [] → eighth (unfinished ks) ≡ false → pulled ≡ false
+  word-waits n e = rw (n, e)
+
+  -- after an own write word every byte is acknowledged after its eighth rise, and nothing else is pulled
+  pub write-acknowledges : (word : Nine) (vs : List Nine) (a16 : Bool) → nines ks ≡ word ∷ vs → wordOf p pins (word .value) ≡ WriteWord a16
+      → pulled ≡ eighth (unfinished ks)
+  write-acknowledges word vs a16 n w = rw (n, w)
+
+  -- after another word nothing is pulled
+  pub other-waits : (word : Nine) (vs : List Nine) → nines ks ≡ word ∷ vs → wordOf p pins (word .value) ≡ OtherWord → pulled ≡ false
+  other-waits word vs n w = rw (n, w)

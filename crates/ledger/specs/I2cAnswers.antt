@@ -1,0 +1,222 @@
+-- What an I2C part answers, read off the accepted events by starts: it pulls while it acknowledges a byte and while it shows a 0 of
+-- a byte that it sends. Histories have the latest first.
+use Prim.Native.Nat.{ℕ, _-_, _/_, _%_, _^_}
+use mathlib.Core.Bool.{Bool, true, false, cond, not, _&&_}
+use mathlib.Core.List.{List, [], _∷_}
+use lib.Dec.{eqb, ltb}
+use lib.ListN.{length, getD}
+use Rattle.parts.specs.declared.part.Part.{Part}
+use Rattle.serial.specs.Address.{nextAddress}
+use Rattle.trace.specs.declared.event.Event.{Event}
+use Rattle.trace.specs.declared.event.Event.the-variants.{SpiPowerOn, I2cPowerOn, PowerOff, Sample, Expected}
+use Rattle.i2c.specs.declared.buffer.AddressBuffer.{AddressBuffer}
+use Rattle.i2c.specs.declared.edge.Edge.{Edge}
+use Rattle.i2c.specs.declared.edge.Edge.the-variants.{Start, Stop, Rise, Fall, Quiet}
+use Rattle.i2c.specs.declared.word.DeviceWord.{DeviceWord}
+use Rattle.i2c.specs.declared.word.DeviceWord.the-variants.{ReadWord, WriteWord, OtherWord}
+use Rattle.i2c.specs.Buffer.{joined, readAddress}
+use Rattle.i2c.specs.Levels.{levelsOf}
+use Rattle.i2c.specs.Word.{wordOf}
+use Rattle.ledger.specs.Bits.{number}
+use Rattle.ledger.specs.Stores.{stored}
+use Rattle.ledger.specs.History.{Entry}
+use Rattle.ledger.specs.I2cLedger.{Clock, Item, idle, span, Wires, wiresAt, edgeBetween, lastWires, items, writes}
+
+-- ---- the rises of a span, nine to a byte
+
+-- a whole byte: the number of its first eight lines, and the line at its ninth rise
+pub record Nine : Type 0 where
+  pub value : ℕ
+  pub ninth : Bool
+
+abbrev pub nines : List Clock → List Nine
+nines [] = []
+nines (a ∷ []) = []
+nines (a ∷ b ∷ []) = []
+nines (a ∷ b ∷ c ∷ []) = []
+nines (a ∷ b ∷ c ∷ d ∷ []) = []
+nines (a ∷ b ∷ c ∷ d ∷ e ∷ []) = []
+nines (a ∷ b ∷ c ∷ d ∷ e ∷ f ∷ []) = []
+nines (a ∷ b ∷ c ∷ d ∷ e ∷ f ∷ g ∷ []) = []
+nines (a ∷ b ∷ c ∷ d ∷ e ∷ f ∷ g ∷ h ∷ []) = []
+nines (a ∷ b ∷ c ∷ d ∷ e ∷ f ∷ g ∷ h ∷ ninth ∷ more) =
+    record {
+      value = number (a .line ∷ b .line ∷ c .line ∷ d .line ∷ e .line ∷ f .line ∷ g .line ∷ h .line ∷ []);
+      ninth = ninth .line;
+    }
+    ∷ nines more
+
+-- the lines at the rises after the last whole byte, at most eight
+abbrev pub unfinished : List Clock → List Bool
+unfinished [] = []
+unfinished (a ∷ []) = a .line ∷ []
+unfinished (a ∷ b ∷ []) = a .line ∷ b .line ∷ []
+unfinished (a ∷ b ∷ c ∷ []) = a .line ∷ b .line ∷ c .line ∷ []
+unfinished (a ∷ b ∷ c ∷ d ∷ []) = a .line ∷ b .line ∷ c .line ∷ d .line ∷ []
+unfinished (a ∷ b ∷ c ∷ d ∷ e ∷ []) = a .line ∷ b .line ∷ c .line ∷ d .line ∷ e .line ∷ []
+unfinished (a ∷ b ∷ c ∷ d ∷ e ∷ f ∷ []) = a .line ∷ b .line ∷ c .line ∷ d .line ∷ e .line ∷ f .line ∷ []
+unfinished (a ∷ b ∷ c ∷ d ∷ e ∷ f ∷ g ∷ []) = a .line ∷ b .line ∷ c .line ∷ d .line ∷ e .line ∷ f .line ∷ g .line ∷ []
+unfinished (a ∷ b ∷ c ∷ d ∷ e ∷ f ∷ g ∷ h ∷ []) = a .line ∷ b .line ∷ c .line ∷ d .line ∷ e .line ∷ f .line ∷ g .line ∷ h .line ∷ []
+unfinished (a ∷ b ∷ c ∷ d ∷ e ∷ f ∷ g ∷ h ∷ ninth ∷ more) = unfinished more
+
+-- ---- the address buffer, over the whole bytes of a span
+
+abbrev pub unusedAt : ℕ → AddressBuffer
+unusedAt a = record { address = a; used = false }
+
+abbrev pub usedAt : ℕ → AddressBuffer
+usedAt a = record { address = a; used = true }
+
+-- data bytes that come in from address a on: each one, stored or dropped, makes it "its address, used"; the address goes up and
+-- rolls over
+abbrev pub takenBuffer : Part → AddressBuffer → ℕ → List Nine → AddressBuffer
+takenBuffer p b a [] = b
+takenBuffer p b a (v ∷ vs) = takenBuffer p (usedAt a) (nextAddress (p .size) a) vs
+
+-- after a write word two address bytes, of which the second makes it "n, unused", then data
+abbrev pub writtenBuffer : Part → AddressBuffer → Bool → List Nine → AddressBuffer
+writtenBuffer p b a16 [] = b
+writtenBuffer p b a16 (high ∷ []) = b
+writtenBuffer p b a16 (high ∷ low ∷ vs) =
+    takenBuffer p (unusedAt (joined p a16 (high .value) (low .value))) (joined p a16 (high .value) (low .value)) vs
+
+-- bytes that go out from address a on: each one makes it "its address, used"; a low at the ninth rise asks for the next byte, high
+-- ends the transfer
+abbrev pub sentBuffer : Part → AddressBuffer → ℕ → List Nine → AddressBuffer
+sentBuffer p b a [] = b
+sentBuffer p b a (v ∷ vs) = cond (v .ninth) (usedAt a) (sentBuffer p (usedAt a) (nextAddress (p .size) a) vs)
+
+-- a read word begins at the buffer's address, bit 16 replaced first, plus one and rolled over if used
+abbrev pub wordBuffer : Part → AddressBuffer → DeviceWord → List Nine → AddressBuffer
+wordBuffer p b (ReadWord a16) vs = sentBuffer p b (readAddress p b a16) vs
+wordBuffer p b (WriteWord a16) vs = writtenBuffer p b a16 vs
+wordBuffer p b OtherWord vs = b
+
+-- from the buffer b at the START
+abbrev pub spanBuffer : Part → ℕ → AddressBuffer → List Nine → AddressBuffer
+spanBuffer p pins b [] = b
+spanBuffer p pins b (word ∷ vs) = wordBuffer p b (wordOf p pins (word .value)) vs
+
+-- ---- what the part does after a fall of SCL, by the whole bytes before it and the lines of the byte begun
+
+-- eight rises of the byte are over: the ninth clock acknowledges
+abbrev pub eighth : List Bool → Bool
+eighth bs = eqb (length bs) 8
+
+abbrev pub isOwn : DeviceWord → Bool
+isOwn (ReadWord a16) = true
+isOwn (WriteWord a16) = true
+isOwn OtherWord = false
+
+-- most significant first: bit 7 - k of a byte
+abbrev pub shownBit : ℕ → ℕ → Bool
+shownBit v k = eqb (v / 2 ^ (7 - k) % 2) 1
+
+-- a byte that goes out shows bit 7 - k after k of its rises, k below 8, and pulls at a 0
+abbrev pub showsLow : ℕ → List Bool → Bool
+showsLow v bs = ltb (length bs) 8 && not (shownBit v (length bs))
+
+-- bytes of the memory m go out from address a up, rolled over, as long as the lines at the ninth rises are low
+abbrev pub sendsLow : Part → List ℕ → ℕ → List Nine → List Bool → Bool
+sendsLow p m a [] bs = showsLow (getD m a 0) bs
+sendsLow p m a (v ∷ vs) bs = cond (v .ninth) false (sendsLow p m (nextAddress (p .size) a) vs bs)
+
+-- after a read word bytes go out; after a write word every byte is acknowledged; after another word nothing
+abbrev pub wordPulls : Part → List ℕ → AddressBuffer → DeviceWord → List Nine → List Bool → Bool
+wordPulls p m b (ReadWord a16) vs bs = sendsLow p m (readAddress p b a16) vs bs
+wordPulls p m b (WriteWord a16) vs bs = eighth bs
+wordPulls p m b OtherWord vs bs = false
+
+-- an own word is acknowledged; b is the buffer at the START
+abbrev pub spanPulls : Part → ℕ → List ℕ → AddressBuffer → List Nine → List Bool → Bool
+spanPulls p pins m b [] bs = eighth bs && isOwn (wordOf p pins (number bs))
+spanPulls p pins m b (word ∷ vs) bs = wordPulls p m b (wordOf p pins (word .value)) vs bs
+
+-- ---- over a history
+
+-- the buffer that an open span has left so far, b being the one at its START
+abbrev pub openBuffer : Part → ℕ → AddressBuffer → List Item → AddressBuffer
+openBuffer p pins b [] = b
+openBuffer p pins b (idle ∷ is) = b
+openBuffer p pins b (span ks ∷ is) = spanBuffer p pins b (nines ks)
+
+-- START and STOP begin with the buffer that was left
+abbrev pub carried : Edge → Part → ℕ → AddressBuffer → List Item → AddressBuffer
+carried Start p pins b is = openBuffer p pins b is
+carried Stop p pins b is = openBuffer p pins b is
+carried (Rise line) p pins b is = b
+carried Fall p pins b is = b
+carried Quiet p pins b is = b
+
+abbrev pub beforeAfter : Event → ℕ → Wires → Part → ℕ → AddressBuffer → List Item → AddressBuffer
+beforeAfter (SpiPowerOn x) answer w p pins b is = b
+beforeAfter (I2cPowerOn x a) answer w p pins b is = unusedAt a
+beforeAfter PowerOff answer w p pins b is = b
+beforeAfter (Sample x) answer w p pins b is = carried (edgeBetween w (wiresAt (levelsOf x) answer)) p pins b is
+beforeAfter (Expected v) answer w p pins b is = b
+
+-- the address buffer at the last START, STOP or power on; at power on "start address, unused"
+abbrev pub bufferBefore : Part → ℕ → List Entry → AddressBuffer
+bufferBefore p pins [] = unusedAt 0
+bufferBefore p pins (e ∷ h) = beforeAfter (e .event) (e .answer) (lastWires h) p pins (bufferBefore p pins h) (items h)
+
+-- the address buffer now
+abbrev pub bufferOf : Part → ℕ → List Entry → AddressBuffer
+bufferOf p pins h = openBuffer p pins (bufferBefore p pins h) (items h)
+
+-- the rises of the open span that came before its last fall of SCL, if it has one
+pub data LastFall : Type 0 where
+  none : LastFall
+  after : List Clock → LastFall
+
+abbrev pub fallIn : List Item → LastFall
+fallIn [] = none
+fallIn (idle ∷ is) = none
+fallIn (span ks ∷ is) = after ks
+
+-- the part's pull changes on SCL falls; START and STOP release the line
+abbrev pub fallOn : Edge → List Item → LastFall → LastFall
+fallOn Start is f = none
+fallOn Stop is f = none
+fallOn (Rise line) is f = f
+fallOn Fall is f = fallIn is
+fallOn Quiet is f = f
+
+abbrev pub fallAfter : Event → ℕ → Wires → List Item → LastFall → LastFall
+fallAfter (SpiPowerOn x) answer w is f = f
+fallAfter (I2cPowerOn x a) answer w is f = none
+fallAfter PowerOff answer w is f = none
+fallAfter (Sample x) answer w is f = fallOn (edgeBetween w (wiresAt (levelsOf x) answer)) is f
+fallAfter (Expected v) answer w is f = f
+
+abbrev pub lastFall : List Entry → LastFall
+lastFall [] = none
+lastFall (e ∷ h) = fallAfter (e .event) (e .answer) (lastWires h) (items h) (lastFall h)
+
+-- whether the part pulls since that fall, with the memory m and the buffer b at the START
+abbrev pub pullsSince : Part → ℕ → List ℕ → AddressBuffer → LastFall → Bool
+pullsSince p pins m b none = false
+pullsSince p pins m b (after ks) = spanPulls p pins m b (nines ks) (unfinished ks)
+
+-- the ledger's memory
+abbrev pub memoryOf : Part → ℕ → List ℕ → List Entry → List ℕ
+memoryOf p pins first h = stored first (writes p pins (items h))
+
+abbrev pub pulls : Part → ℕ → List ℕ → List Entry → Bool
+pulls p pins first h = pullsSince p pins (memoryOf p pins first h) (bufferBefore p pins h) (lastFall h)
+
+-- the answer is 0 (low) or 2 (nothing driven)
+abbrev pub pullAnswer : Bool → ℕ
+pullAnswer true = 0
+pullAnswer false = 2
+
+-- the answer of the last event
+abbrev pub presentAnswer : List Entry → ℕ
+presentAnswer [] = 2
+presentAnswer (e ∷ h) = e .answer
+
+-- what the last event of a history answers. Its own answer is not looked at: the pull changes on SCL falls, so that START, STOP and
+-- the bit of a rise are those of the line with the pull from before
+abbrev pub i2cAnswer : Part → ℕ → List ℕ → List Entry → ℕ
+i2cAnswer p pins first [] = 2
+i2cAnswer p pins first (e ∷ h) = pullAnswer (pulls p pins first (record { event = e .event; answer = presentAnswer h } ∷ h))

@@ -1,0 +1,60 @@
+-- A sequential read shows the bytes of the memory from the read address up, rolled over: after every list of events on every making
+-- of an I2C part. From the answers and the memory's agreement with the ledger. Assumes nothing.
+use Prim.Native.Nat.{ℕ, _+_, _%_, _<_}
+use mathlib.Core.Path.{_≡_, sym, ap, _∙_}
+use mathlib.Core.Bool.{Bool, false, not}
+use mathlib.Core.List.{List, _∷_}
+use lib.ListN.{length, getD}
+use Rattle.parts.specs.declared.part.Part.{Part}
+use Rattle.parts.specs.Table.{isSpi, partOf}
+use Rattle.parts.proofs.Rows.{part-fits}
+use Rattle.i2c.specs.declared.word.DeviceWord.the-variants.{ReadWord}
+use Rattle.i2c.specs.Buffer.{readAddress}
+use Rattle.i2c.specs.Word.{wordOf}
+use Rattle.i2c.proofs.BufferLaws.{read-within}
+use Rattle.chip.specs.declared.model.Model.{Model}
+use Rattle.chip.proofs.CheckLaws.{model-in}
+use Rattle.ledger.specs.History.{Entry}
+use Rattle.ledger.specs.I2cLedger.{Clock}
+use Rattle.ledger.specs.I2cAnswers.{Nine, nines, unfinished, shownBit, after, lastFall, bufferBefore, memoryOf, pullAnswer, presentAnswer}
+use Rattle.ledger.proofs.I2cSends.{AllLow, span-sends}
+use Rattle.promise.specs.Lists.{memoryAfter}
+use Rattle.promise.specs.Promise.{madeBy, historyOf}
+use Rattle.promise.proofs.Ranges.{made-in, made-off}
+use Rattle.promise.proofs.Steps.{list-memory}
+use Rattle.promise.proofs.I2cAnswers.{list-present, list-inside}
+
+module _ (part pins bits : ℕ) (first : List ℕ) (es : List (List ℕ)) where
+  abbrev pub made : Model
+  made = madeBy part pins bits
+
+  abbrev pub row : Part
+  row = partOf (made .part)
+
+  abbrev pub history : List Entry
+  history = historyOf made first es
+
+  -- where the open span began to read, its word having A16 so
+  abbrev pub from : Bool → ℕ
+  from a16 = readAddress row (bufferBefore row (made .pins) history) a16
+
+  module _ (i2c : isSpi (row .bus) ≡ false) where
+    memory-is : memoryOf row (made .pins) first history ≡ memoryAfter made first es
+    memory-is = sym (rw i2c at (list-memory made first (made-in part pins bits) (made-off part pins bits) es))
+
+    from-within : (ks : List Clock) (a16 : Bool) → lastFall history ≡ after ks → from a16 < row .size
+    from-within ks a16 q =
+        read-within row (bufferBefore row (made .pins) history) a16 (part-fits (made .part) (model-in made (made-in part pins bits .0) .known))
+        (list-inside made first i2c (made-in part pins bits) (made-off part pins bits) es ks q)
+
+    -- SCL last fell after rises that make an own read word, then whole bytes vs that each asked for the next one, then k rises, k below
+    -- 8: the answer is 0 exactly if bit 7 - k of the byte at the read address plus the number of vs, modulo the size, is 0; else 2
+    pub read-sends : (ks : List Clock) (word : Nine) (vs : List Nine) (a16 : Bool) → lastFall history ≡ after ks → nines ks ≡ word ∷ vs
+        → wordOf row (made .pins) (word .value) ≡ ReadWord a16 → AllLow vs → length (unfinished ks) < 8
+        → presentAnswer history
+        ≡ pullAnswer (not (shownBit (getD (memoryAfter made first es) ((from a16 + length vs) % row .size) 0) (length (unfinished ks))))
+    read-sends ks word vs a16 q n w l k =
+        list-present made first i2c (made-in part pins bits) (made-off part pins bits) es
+        ∙ rw (q, memory-is)
+        (ap pullAnswer (span-sends row (memoryAfter made first es) (made .pins) (bufferBefore row (made .pins) history) ks word vs a16
+        (from-within ks a16 q) n w l k))
