@@ -11,3 +11,9 @@ pub mod I2cAnswers
 pub mod I2cSends
 pub mod I2cNines
 pub mod I2cSays
+pub mod SpiSources
+pub mod SpiShows
+pub mod SpiOutputs
+pub mod SpiAnswers
+pub mod SpiSentences
+pub mod SpiAnswerExamples

@@ -4,3 +4,4 @@ pub mod History
 pub mod SpiLedger
 pub mod I2cLedger
 pub mod I2cAnswers
+pub mod SpiAnswers

@@ -14,3 +14,7 @@ pub mod I2cAnswers
 pub mod I2cSaid
 pub mod I2cSends
 pub mod I2cDetermined
+pub mod SpiAnswers
+pub mod SpiAnswersShown
+pub mod SpiAnswersBytes
+pub mod SpiAnswersExample

@@ -73,7 +73,7 @@ module _ (made : Model) (first : List ℕ) where
 
   module _ (inside : InRange made) where
     -- one event that was read, on a state of this part and these pins
-    abbrev StepAt : Model → List ℕ → List Entry → Event → Type 0
+    abbrev pub StepAt : Model → List ℕ → List Entry → Event → Type 0
     StepAt s m h e = Fits (advanceOf s m e .result .model) (advanceOf s m e .memory) (entered e (advanceOf s m e) h)
 
     step-at : (b : BusState) (st : Status) (m : List ℕ) (h : List Entry) (e : Event) → AgreesOn made first b st m h

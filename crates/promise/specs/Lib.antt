@@ -3,3 +3,4 @@ pub mod Fed
 pub mod Ledger
 pub mod Promise
 pub mod I2cAnswers
+pub mod SpiAnswers
