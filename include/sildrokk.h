@@ -1,0 +1,80 @@
+/*
+ * Sildrokk for C: a bench model of five FeRAM parts that plays the chip at its pins.
+ *
+ * Link target/staticlib/libharness.a, which `rt staticlib harness` proves and writes (x86-64).
+ *
+ *   part  chip        bus  bytes of memory  address pins      saved bits (SRWD BP1 BP0)
+ *   0     MR45V032A   SPI  4,096            0                 0
+ *   1     MR45V100A   SPI  131,072          0                 0 to 7
+ *   2     MR45V200B   SPI  262,144          0                 0 to 7
+ *   3     MR44V064B   I2C  8,192            0 to 7, A2 A1 A0  0
+ *   4     MS85RC1MTY  I2C  131,072          0 to 3, A2 A1     0
+ *
+ * A trace is a row of events, each one byte of kind and a body whose length the kind fixes:
+ *
+ *   01 sample                SPI power on
+ *   02 sample, 3 bytes       I2C power on, with the start address, most significant byte first
+ *   03                       power off
+ *   04 sample                the wires' next sample
+ *   05 answer                the answer that is expected now
+ *
+ *   SPI sample: bit 0 CS#, 1 SCK, 2 SI, 3 WP#, 4 HOLD#. I2C sample: bit 0 SCL, 1 SDA as others
+ *   drive it, 2 WP. Answers: 0 low, 1 high, 2 nothing driven.
+ *
+ * Both functions return 0, or the first of these numbers that holds:
+ *
+ *   1  part, address pins or saved bits out of range
+ *   3  memory_length is not the part's size
+ *   4  kind unknown, or 01 on I2C, or 02 on SPI
+ *   5  the trace ends inside the event
+ *   6  sample, start address or expected answer out of range
+ *   7  no power, and the event is 03, 04 or 05
+ *   8  power is on, and the event is 01 or 02
+ *   9  the present answer is not the expected one
+ *
+ * 1 and 3 are tested first, whatever the trace and the quota; the memory is then untouched, and
+ * count and offset are 0. With 4 to 9 the events before the refused one stand.
+ *
+ * The host's duties, which nothing here can test: each pointer is valid for its length and not
+ * null, also where the length is 0; and no two of the lent buffers overlap. The functions keep
+ * nothing between calls and allocate nothing, so calls on buffers of their own may run at once.
+ */
+
+#ifndef SILDROKK_H
+#define SILDROKK_H
+
+#include <stddef.h>
+#include <stdint.h>
+
+#ifdef __cplusplus
+extern "C" {
+#endif
+
+/*
+ * Makes a model of part, address pins and saved bits, without power, and runs the trace on the
+ * lent memory until `quota` events are accepted, the trace ends or an event is refused.
+ *
+ * A result of exactly 16 bytes gets the count of accepted events and the offset of the first kind
+ * byte not accepted, eight bytes each, most significant first. A result of another length is left
+ * as it is.
+ */
+uint8_t sildrokk_run(uint32_t part, uint32_t pins, uint32_t bits, uint64_t quota,
+                     const uint8_t *trace, size_t trace_length,
+                     uint8_t *memory, size_t memory_length,
+                     uint8_t *result, size_t result_length);
+
+/*
+ * The same run. It also writes the answer (0, 1 or 2) of the accepted event number i, counted from
+ * 0, to answers[i] while there is room; the rest of answers is left as it is.
+ */
+uint8_t sildrokk_replay(uint32_t part, uint32_t pins, uint32_t bits, uint64_t quota,
+                        const uint8_t *trace, size_t trace_length,
+                        uint8_t *memory, size_t memory_length,
+                        uint8_t *answers, size_t answers_length,
+                        uint8_t *result, size_t result_length);
+
+#ifdef __cplusplus
+}
+#endif
+
+#endif

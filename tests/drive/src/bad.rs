@@ -1,0 +1,152 @@
+//! Calls with something wrong or at its limit, each with the number that it is to return.
+
+use crate::call::Call;
+use crate::script::{addressed, Script};
+use crate::{tally, Making};
+use twin::part::Wires;
+use twin::{Part, PARTS};
+
+/// All of them.
+pub fn calls() -> Vec<(Call, u8)> {
+    let of_part = |part| {
+        [
+            makings(part),
+            memories(part),
+            traces(part),
+            results(part),
+            answers(part),
+        ]
+    };
+    let of_parts = PARTS.iter().flat_map(of_part).flatten();
+    of_parts.chain(parts()).collect()
+}
+
+/// A call that stores a byte in the first memory; each wrong thing must keep it from that. Its
+/// answers change often, so that one that lands in another's place is seen.
+fn storing(part: &Part) -> Call {
+    let script = match part.wires {
+        Wires::Spi => {
+            let mut script = Script::spi();
+            script.command(&[6]);
+            script.command(&[&addressed(part.number, 2, 0x123)[..], &[0x77]].concat());
+            script.ask(&addressed(part.number, 3, 0x123), 1);
+            script
+        }
+        Wires::I2c => {
+            let mut script = Script::i2c(0);
+            script.start();
+            script.give_all(&[0xa0, 0x01, 0x23, 0x77]);
+            script.stop();
+            script
+        }
+    };
+    Call::whole(plain(part.number), script.into_trace())
+}
+
+fn plain(part: u32) -> Making {
+    Making {
+        part,
+        pins: 0,
+        bits: 0,
+    }
+}
+
+/// Parts out of range, 256 among them, which cut to a byte would be part 0.
+fn parts() -> Vec<(Call, u8)> {
+    let good = storing(&PARTS[0]);
+    let with = |part| Call {
+        making: plain(part),
+        ..good.clone()
+    };
+    [5, 6, 255, 256, 257, 1 << 16, 1 << 31, u32::MAX]
+        .map(|part| (with(part), 1))
+        .into()
+}
+
+/// Pins and bits out of range, 256 among them; 1 comes before 3, whatever the memory.
+fn makings(part: &Part) -> Vec<(Call, u8)> {
+    let good = storing(part);
+    let beyond = |most: u32| [most + 1, 8, 255, 256, 1 << 16, u32::MAX];
+    let pins = beyond(part.max_pins).map(|pins| Making {
+        pins,
+        ..good.making
+    });
+    let bits = beyond(part.max_bits).map(|bits| Making {
+        bits,
+        ..good.making
+    });
+    let both = |making| {
+        [part.size, 0].map(|memory| Call {
+            making,
+            memory,
+            ..good.clone()
+        })
+    };
+    let bad = pins.into_iter().chain(bits).flat_map(both);
+    bad.map(|call| (call, 1)).collect()
+}
+
+/// Memories of another length, the other parts' among them, also with nothing to run.
+fn memories(part: &Part) -> Vec<(Call, u8)> {
+    let good = storing(part);
+    let near = [0, 1, part.size - 1, part.size + 1];
+    let others = PARTS.iter().map(|part| part.size);
+    let wrong = near.into_iter().chain(others).filter(|&it| it != part.size);
+    let each = |memory| {
+        let call = Call {
+            memory,
+            ..good.clone()
+        };
+        let nothing = Call {
+            trace: Vec::new(),
+            ..call.clone()
+        };
+        [call.stopped(0), nothing, call]
+    };
+    wrong.flat_map(each).map(|call| (call, 3)).collect()
+}
+
+/// Nothing to run, no quota, and an unknown kind that no quota reaches.
+fn traces(part: &Part) -> Vec<(Call, u8)> {
+    let good = storing(part);
+    let unknown = |quota| Call {
+        quota,
+        trace: vec![0xff],
+        ..good.clone()
+    };
+    let empty = Call {
+        trace: Vec::new(),
+        ..good.clone()
+    };
+    vec![
+        (good.stopped(0), 0),
+        (good.stopped(1), 0),
+        (good.stopped(u64::MAX), 0),
+        (good.stopped(1 << 32), 0),
+        (empty, 0),
+        (unknown(0), 0),
+        (unknown(1), 4),
+        (unknown(u64::MAX), 4),
+    ]
+}
+
+/// A result of another length than 16 is left, and the run is the same.
+fn results(part: &Part) -> Vec<(Call, u8)> {
+    let good = storing(part);
+    let with = |result| Call {
+        result,
+        ..good.clone()
+    };
+    [0, 1, 15, 16, 17, 32].map(|it| (with(it), 0)).into()
+}
+
+/// Answers with every room up to one more than there are events.
+fn answers(part: &Part) -> Vec<(Call, u8)> {
+    let good = storing(part);
+    let events = tally::events(&good.trace).count();
+    let with = |room| Call {
+        answers: Some(room),
+        ..good.clone()
+    };
+    (0..=events + 1).map(|room| (with(room), 0)).collect()
+}

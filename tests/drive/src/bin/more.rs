@@ -1,0 +1,5 @@
+//! Prints tests/vectors/more.txt.
+
+fn main() {
+    print!("{}", drive::more::text());
+}

@@ -1,0 +1,105 @@
+//! A long comparison of the proved build with the twin: `soak EVENTS SEED`, or `soak 300s SEED`
+//! for so many seconds. Stops at the first difference and prints its trace.
+
+use drive::call::{Agreed, Call};
+use drive::tally::{Tally, HEAD};
+use std::process::ExitCode;
+use std::time::{Duration, Instant};
+use twin::gen::{self, Case, Knobs, Rng};
+use twin::PARTS;
+
+/// When to stop.
+enum Until {
+    Events(u64),
+    Time(Duration),
+}
+
+impl Until {
+    fn parse(word: &str) -> Option<Until> {
+        match word.strip_suffix('s') {
+            Some(seconds) => Some(Until::Time(Duration::from_secs(seconds.parse().ok()?))),
+            None => Some(Until::Events(word.parse().ok()?)),
+        }
+    }
+
+    fn reached(&self, accepted: u64, begun: Instant) -> bool {
+        match *self {
+            Until::Events(events) => accepted >= events,
+            Until::Time(time) => begun.elapsed() >= time,
+        }
+    }
+}
+
+fn main() -> ExitCode {
+    let words: Vec<String> = std::env::args().skip(1).collect();
+    let (until, seed) = match &words[..] {
+        [until, seed] => (Until::parse(until), seed.parse().ok()),
+        _ => (None, None),
+    };
+    let (Some(until), Some(seed)) = (until, seed) else {
+        eprintln!("usage: soak EVENTS SEED, or soak SECONDSs SEED");
+        return ExitCode::from(2);
+    };
+    match soak(&until, seed) {
+        Ok(()) => ExitCode::SUCCESS,
+        Err(report) => {
+            println!("{report}");
+            ExitCode::FAILURE
+        }
+    }
+}
+
+/// Each part in turn; each trace whole with its answers, then without them up to a quota.
+fn soak(until: &Until, seed: u64) -> Result<(), String> {
+    let mut rng = Rng::new(seed);
+    let mut tallies: [Tally; PARTS.len()] = Default::default();
+    let begun = Instant::now();
+    let mut accepted = 0;
+    while !until.reached(accepted, begun) {
+        for part in &PARTS {
+            let whole = Call::of(case(&mut rng, part.number));
+            let agreed = compared(&whole)?;
+            let stopped = whole.stopped(rng.below(agreed.ran.count + 2));
+            accepted += agreed.ran.count + compared(&stopped)?.ran.count;
+            tallies[part.number as usize].add(&whole.trace, &agreed);
+        }
+    }
+    report(&tallies, accepted, begun.elapsed());
+    Ok(())
+}
+
+/// A case with traces up to ten times as long as the tests have them.
+fn case(rng: &mut Rng, part: u32) -> Case {
+    let drawn = Knobs::draw(rng, part);
+    let knobs = Knobs {
+        blocks: drawn.blocks * rng.pick(&[1, 10]),
+        ..drawn
+    };
+    Case {
+        part,
+        pins: knobs.pins,
+        bits: knobs.bits,
+        trace: gen::trace_with(rng, part, &knobs),
+    }
+}
+
+/// What both gave, or the call with the quota at which they first differ.
+fn compared(call: &Call) -> Result<Agreed, String> {
+    call.compare().map_err(|difference| {
+        let differs = |&quota: &u64| call.stopped(quota).compare().is_err();
+        let quota = (0..=call.trace.len() as u64).find(differs);
+        format!("{difference}, first with quota {quota:?}: {call}")
+    })
+}
+
+fn report(tallies: &[Tally], accepted: u64, time: Duration) {
+    println!("part{HEAD}");
+    let mut sum = Tally::default();
+    for (part, tally) in tallies.iter().enumerate() {
+        println!("{part:>4}{tally}");
+        sum.join(tally);
+    }
+    println!(" all{sum}");
+    let seconds = time.as_secs_f64();
+    println!("{accepted} events compared, with those of the stopped runs, in {seconds:.1} s");
+}

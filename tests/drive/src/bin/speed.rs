@@ -1,0 +1,180 @@
+//! How fast the proved build is beside the twin, in one process and on the same traces: medians of
+//! interleaved rounds, no answers collected on either side. `speed [ROUNDS]`.
+
+use drive::script::{addressed, Script};
+use drive::{Making, Ran};
+use std::hint::black_box;
+use std::time::Instant;
+use twin::gen::Rng;
+use twin::part::Wires;
+use twin::{Model, PARTS};
+
+/// Data bytes of a stream: the largest memory once.
+const BYTES: usize = 262_144;
+
+struct Stream {
+    name: &'static str,
+    part: u32,
+    trace: Vec<u8>,
+}
+
+fn main() {
+    let rounds = std::env::args().nth(1).and_then(|word| word.parse().ok());
+    let rounds = rounds.unwrap_or(15);
+    println!("                                      million samples a second     ns a sample");
+    println!("stream         memory     samples      proved        twin   ratio  proved    twin");
+    let streams = [
+        spi_write(0),
+        spi_read(0),
+        i2c_write(3),
+        i2c_read(3),
+        random(0),
+        random(3),
+    ];
+    for stream in streams {
+        measure(&stream, rounds);
+    }
+    println!("\nthe same stream on memories of three sizes");
+    for part in 0..3 {
+        measure(&spi_write(part), rounds);
+        measure(&spi_read(part), rounds);
+    }
+}
+
+/// One WRITE that goes round the memory.
+fn spi_write(part: u32) -> Stream {
+    let mut rng = Rng::new(1);
+    let mut script = Script::spi();
+    script.command(&[6]);
+    script.select();
+    script.bytes(&addressed(part, 2, 0));
+    for _ in 0..BYTES {
+        script.byte(rng.byte());
+    }
+    script.deselect();
+    Stream {
+        name: "SPI write",
+        part,
+        trace: script.into_trace(),
+    }
+}
+
+/// One READ that goes round the memory.
+fn spi_read(part: u32) -> Stream {
+    let mut script = Script::spi();
+    script.ask(&addressed(part, 3, 0), BYTES);
+    Stream {
+        name: "SPI read",
+        part,
+        trace: script.into_trace(),
+    }
+}
+
+/// One write transfer that goes round the memory.
+fn i2c_write(part: u32) -> Stream {
+    let mut rng = Rng::new(2);
+    let mut script = Script::i2c(0);
+    script.start();
+    script.give_all(&[0xa0, 0, 0]);
+    for _ in 0..BYTES {
+        script.give(rng.byte());
+    }
+    script.stop();
+    Stream {
+        name: "I2C write",
+        part,
+        trace: script.into_trace(),
+    }
+}
+
+/// One read transfer that goes round the memory.
+fn i2c_read(part: u32) -> Stream {
+    let mut script = Script::i2c(0);
+    script.start();
+    script.give(0xa1);
+    for _ in 0..BYTES {
+        script.take(true);
+    }
+    script.take(false);
+    script.stop();
+    Stream {
+        name: "I2C read",
+        part,
+        trace: script.into_trace(),
+    }
+}
+
+/// Any samples at all, after power on.
+fn random(part: u32) -> Stream {
+    let mut rng = Rng::new(3);
+    let table = &PARTS[part as usize];
+    let (name, mut script) = match table.wires {
+        Wires::Spi => ("SPI random", Script::spi()),
+        Wires::I2c => ("I2C random", Script::i2c(0)),
+    };
+    for _ in 0..16 * BYTES {
+        script.event(&[4, rng.byte() & table.max_sample()]);
+    }
+    Stream {
+        name,
+        part,
+        trace: script.into_trace(),
+    }
+}
+
+/// Rounds that begin with either side in turn, each over cleared memories. The ratio is that of the
+/// two times of a round, so that a load that comes and goes falls on both.
+fn measure(stream: &Stream, rounds: usize) {
+    let size = PARTS[stream.part as usize].size;
+    let mut samples = 0;
+    let mut times = Vec::new();
+    for round in 0..rounds {
+        let (mut one, mut two) = (vec![0; size], vec![0; size]);
+        let mut ours = || timed(|| proved(stream, &mut one));
+        let mut theirs = || timed(|| twin(stream, &mut two));
+        let ((ran, our_time), (same, their_time)) = if round % 2 == 0 {
+            (ours(), theirs())
+        } else {
+            let first = theirs();
+            (ours(), first)
+        };
+        assert!(ran == same && one == two, "the two sides differ");
+        assert_eq!(ran.number, 0, "the stream has a refused event");
+        samples = ran.count;
+        times.push((our_time, their_time));
+    }
+    let (ours, theirs) = (median(&times, |it| it.0), median(&times, |it| it.1));
+    let ratio = median(&times, |it| it.0 / it.1);
+    let rate = |seconds: f64| samples as f64 / seconds / 1e6;
+    let nanos = |seconds: f64| seconds * 1e9 / samples as f64;
+    print!("{:<11} {size:>9} {samples:>11} ", stream.name);
+    print!("{:>11.1} {:>11.1} {ratio:>7.2} ", rate(ours), rate(theirs));
+    println!("{:>7.1} {:>7.1}", nanos(ours), nanos(theirs));
+}
+
+/// A run and its seconds.
+fn timed(run: impl FnOnce() -> Ran) -> (Ran, f64) {
+    let begun = Instant::now();
+    let ran = black_box(run());
+    (ran, begun.elapsed().as_secs_f64())
+}
+
+fn proved(stream: &Stream, memory: &mut [u8]) -> Ran {
+    let making = Making {
+        part: stream.part,
+        pins: 0,
+        bits: 0,
+    };
+    drive::run(making, u64::MAX, black_box(&stream.trace), memory, None)
+}
+
+fn twin(stream: &Stream, memory: &mut [u8]) -> Ran {
+    let (_, mut model) = Model::make(stream.part, 0, 0);
+    model.run_each(black_box(&stream.trace), u64::MAX, memory, |_| ())
+}
+
+fn median(times: &[(f64, f64)], figure: impl Fn(&(f64, f64)) -> f64) -> f64 {
+    let mut figures: Vec<f64> = times.iter().map(figure).collect();
+    figures.sort_by(f64::total_cmp);
+    figures[figures.len() / 2]
+}

@@ -1,0 +1,69 @@
+//! What many compared traces of a part amount to, so that nobody takes refusals for agreement.
+
+use crate::call::Agreed;
+use std::fmt;
+
+#[derive(Clone, Debug, Default)]
+pub struct Tally {
+    pub traces: u64,
+    /// Events in the traces, also those after a refused one, which are not run.
+    pub events: u64,
+    pub accepted: u64,
+    /// Bytes of memory that differ at the end of their trace.
+    pub changed: u64,
+    /// Traces by the number that ended them; 0 for those that ran to their end.
+    pub numbers: [u64; 10],
+}
+
+impl Tally {
+    pub fn add(&mut self, trace: &[u8], agreed: &Agreed) {
+        self.traces += 1;
+        self.events += events(trace).count() as u64;
+        self.accepted += agreed.ran.count;
+        self.changed += agreed.changed;
+        self.numbers[usize::from(agreed.ran.number)] += 1;
+    }
+
+    pub fn join(&mut self, other: &Tally) {
+        self.traces += other.traces;
+        self.events += other.events;
+        self.accepted += other.accepted;
+        self.changed += other.changed;
+        for (sum, more) in self.numbers.iter_mut().zip(other.numbers) {
+            *sum += more;
+        }
+    }
+}
+
+impl fmt::Display for Tally {
+    fn fmt(&self, to: &mut fmt::Formatter<'_>) -> fmt::Result {
+        let share = 100.0 * self.accepted as f64 / self.events.max(1) as f64;
+        write!(to, "{:>9} {:>12} ", self.traces, self.accepted)?;
+        write!(to, "{share:>6.1}% {:>9}  ", self.changed)?;
+        for number in [0, 4, 5, 6, 7, 8, 9] {
+            write!(to, " {:>8}", self.numbers[number])?;
+        }
+        Ok(())
+    }
+}
+
+/// The heads of the columns.
+pub const HEAD: &str =
+    "   traces     accepted   share   changed   ended by 0        4        5        \
+                        6        7        8        9";
+
+/// The events of a trace, whole or not; an unknown kind is one byte.
+pub fn events(trace: &[u8]) -> impl Iterator<Item = &[u8]> {
+    let mut rest = trace;
+    std::iter::from_fn(move || {
+        let &kind = rest.first()?;
+        let length = match kind {
+            1 | 4 | 5 => 2,
+            2 => 5,
+            _ => 1,
+        };
+        let (event, after) = rest.split_at(length.min(rest.len()));
+        rest = after;
+        Some(event)
+    })
+}

@@ -1,0 +1,83 @@
+//! Generated traces on the proved build and on the twin: number, answers, count, offset and the
+//! whole memory are equal, for the whole trace and for a run that a quota stops in it.
+
+use drive::call::Call;
+use drive::tally::Tally;
+use twin::gen::{self, Case, Knobs, Rng};
+
+/// Both, or the trace at which they differ.
+fn compare(case: Case, rng: &mut Rng, tally: &mut Tally) {
+    let whole = Call::of(case);
+    let agreed = compared(&whole);
+    tally.add(&whole.trace, &agreed);
+    compared(&whole.stopped(rng.below(agreed.ran.count + 2)));
+}
+
+fn compared(call: &Call) -> drive::call::Agreed {
+    call.compare()
+        .unwrap_or_else(|difference| panic!("{difference}: {call}"))
+}
+
+/// Structured traces of a part, whose pins, bits, cuts, glitches and damage are drawn.
+fn structured(part: u32, traces: u64) {
+    let mut rng = Rng::new(0xd1ff + u64::from(part));
+    let mut tally = Tally::default();
+    for _ in 0..traces {
+        let case = gen::case_of(&mut rng, part);
+        compare(case, &mut rng, &mut tally);
+    }
+    assert!(tally.accepted > 300 * traces, "{tally:?}");
+    assert!(2 * tally.changed > traces, "{tally:?}");
+    assert!(
+        tally.numbers[4..].iter().all(|&ended| ended > 0),
+        "{tally:?}"
+    );
+}
+
+#[test]
+fn part_0() {
+    structured(0, 1000);
+}
+
+#[test]
+fn part_1() {
+    structured(1, 1000);
+}
+
+#[test]
+fn part_2() {
+    structured(2, 1000);
+}
+
+#[test]
+fn part_3() {
+    structured(3, 1000);
+}
+
+#[test]
+fn part_4() {
+    structured(4, 1000);
+}
+
+/// Random bytes and random samples, half of them damaged.
+#[test]
+fn noise() {
+    let mut rng = Rng::new(0x4015e);
+    let mut tally = Tally::default();
+    for at in 0..5000 {
+        let part = at % 5;
+        let knobs = Knobs {
+            noise: 1000,
+            damage: 500,
+            ..Knobs::draw(&mut rng, part)
+        };
+        let case = Case {
+            part,
+            pins: knobs.pins,
+            bits: knobs.bits,
+            trace: gen::trace_with(&mut rng, part, &knobs),
+        };
+        compare(case, &mut rng, &mut tally);
+    }
+    assert!(tally.accepted > 100_000, "{tally:?}");
+}

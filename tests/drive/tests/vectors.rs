@@ -1,0 +1,64 @@
+//! Every line of the vectors agrees with the proved build and with the twin: number, count,
+//! offset, answers and changed cells.
+
+use drive::Making;
+use twin::text::{first_byte, first_memory, Line};
+use twin::PARTS;
+
+const BASE: &str = include_str!("../../vectors/base.txt");
+const MORE: &str = include_str!("../../vectors/more.txt");
+
+/// The line that the proved build gives for a line's making and trace.
+fn proved(line: &Line) -> Line {
+    let making = Making {
+        part: line.part,
+        pins: line.pins,
+        bits: line.bits,
+    };
+    let mut memory = first_memory(PARTS[line.part as usize].size);
+    let mut answers = vec![0xff; line.trace.len()];
+    let ran = drive::run(
+        making,
+        u64::MAX,
+        &line.trace,
+        &mut memory,
+        Some(&mut answers),
+    );
+    let written = answers.iter().take_while(|&&answer| answer != 0xff).count();
+    answers.truncate(written);
+    let differs = |&(address, byte): &(usize, u8)| byte != first_byte(address);
+    Line {
+        ran,
+        answers,
+        changed: memory.into_iter().enumerate().filter(differs).collect(),
+        ..line.clone()
+    }
+}
+
+/// Checks every line; how many there are.
+fn check(text: &str) -> usize {
+    let rows = || text.lines().filter(|row| !row.starts_with('#'));
+    for row in rows() {
+        let line = Line::parse(row).unwrap_or_else(|| panic!("not a vector: {row}"));
+        let twin = Line::play(line.part, line.pins, line.bits, &line.trace);
+        assert_eq!(twin, line, "the twin differs");
+        assert_eq!(proved(&line), line, "the proved build differs");
+    }
+    rows().count()
+}
+
+#[test]
+fn base() {
+    assert_eq!(check(BASE), 500);
+}
+
+#[test]
+fn more() {
+    assert_eq!(check(MORE), 41);
+}
+
+/// The file is what its generator prints, so that neither is changed alone.
+#[test]
+fn more_is_as_generated() {
+    assert_eq!(MORE, drive::more::text());
+}

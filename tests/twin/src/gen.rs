@@ -1,0 +1,333 @@
+//! A seeded generator of structured traces for all five parts. It drives a model while it writes,
+//! so that its expected answers (05) can be right.
+
+mod i2c;
+mod spi;
+
+use crate::model::Model;
+use crate::part::{i2c_pin, spi_pin, Part, Wires, PARTS};
+use crate::text::first_memory;
+
+/// Splitmix64.
+#[derive(Clone, Debug)]
+pub struct Rng(u64);
+
+impl Rng {
+    pub fn new(seed: u64) -> Rng {
+        Rng(seed)
+    }
+
+    pub fn draw(&mut self) -> u64 {
+        self.0 = self.0.wrapping_add(0x9e37_79b9_7f4a_7c15);
+        let mut z = self.0;
+        z = (z ^ z >> 30).wrapping_mul(0xbf58_476d_1ce4_e5b9);
+        z = (z ^ z >> 27).wrapping_mul(0x94d0_49bb_1331_11eb);
+        z ^ z >> 31
+    }
+
+    /// A number below `bound`, which isn't 0.
+    pub fn below(&mut self, bound: u64) -> u64 {
+        self.draw() % bound
+    }
+
+    /// True in so many of a thousand cases.
+    pub fn chance(&mut self, per_mille: u32) -> bool {
+        self.below(1000) < u64::from(per_mille)
+    }
+
+    pub fn byte(&mut self) -> u8 {
+        self.draw() as u8
+    }
+
+    pub fn pick<T: Copy>(&mut self, from: &[T]) -> T {
+        from[self.below(from.len() as u64) as usize]
+    }
+}
+
+/// What a trace is like. The chances are in thousandths.
+#[derive(Clone, Debug)]
+pub struct Knobs {
+    pub pins: u32,
+    pub bits: u32,
+    /// Blocks at most: a transfer, or a command with its WREN and a look after it.
+    pub blocks: u64,
+    /// That a sample is followed by a right 05.
+    pub expect: u32,
+    /// That such a 05 is wrong instead.
+    pub wrong: u32,
+    /// That a clock comes with a glitch.
+    pub glitch: u32,
+    /// That a sample is followed by a power cut, with power on after it.
+    pub cut: u32,
+    /// That a power on comes with a refused event before it or after it.
+    pub stray: u32,
+    /// That the finished trace is damaged.
+    pub damage: u32,
+    /// That the trace is noise throughout.
+    pub noise: u32,
+}
+
+impl Default for Knobs {
+    fn default() -> Knobs {
+        Knobs {
+            pins: 0,
+            bits: 0,
+            blocks: 12,
+            expect: 40,
+            wrong: 0,
+            glitch: 8,
+            cut: 1,
+            stray: 0,
+            damage: 0,
+            noise: 0,
+        }
+    }
+}
+
+impl Knobs {
+    /// Knobs for a part with its pins, bits and chances drawn.
+    pub fn draw(rng: &mut Rng, part: u32) -> Knobs {
+        let (pins, bits) = PARTS.get(part as usize).map_or((0, 0), |part| {
+            let pins = rng.below(u64::from(part.max_pins) + 1);
+            (pins as u32, rng.below(u64::from(part.max_bits) + 1) as u32)
+        });
+        Knobs {
+            pins,
+            bits,
+            blocks: rng.pick(&[2, 6, 12, 20]),
+            expect: rng.pick(&[0, 20, 100]),
+            wrong: rng.pick(&[0, 0, 0, 50]),
+            glitch: rng.pick(&[0, 0, 3, 10, 60]),
+            cut: rng.pick(&[0, 0, 1, 3]),
+            stray: rng.pick(&[0, 10]),
+            damage: rng.pick(&[0, 0, 300]),
+            noise: 60,
+        }
+    }
+}
+
+/// A making and a trace for it.
+#[derive(Clone, Debug)]
+pub struct Case {
+    pub part: u32,
+    pub pins: u32,
+    pub bits: u32,
+    pub trace: Vec<u8>,
+}
+
+/// A case of any part, its knobs drawn.
+pub fn case(rng: &mut Rng) -> Case {
+    let part = rng.below(PARTS.len() as u64) as u32;
+    case_of(rng, part)
+}
+
+/// A case of one part, its knobs drawn.
+pub fn case_of(rng: &mut Rng, part: u32) -> Case {
+    let knobs = Knobs::draw(rng, part);
+    let trace = trace_with(rng, part, &knobs);
+    Case {
+        part,
+        pins: knobs.pins,
+        bits: knobs.bits,
+        trace,
+    }
+}
+
+/// A trace for a part made with pins 0 and bits 0, the other knobs drawn.
+pub fn trace(rng: &mut Rng, part: u32) -> Vec<u8> {
+    let mut knobs = Knobs::draw(rng, part);
+    knobs.pins = 0;
+    knobs.bits = 0;
+    trace_with(rng, part, &knobs)
+}
+
+/// A trace for a part made as the knobs say, over the first memory of the vectors.
+pub fn trace_with(rng: &mut Rng, part: u32, knobs: &Knobs) -> Vec<u8> {
+    let mut out = if rng.chance(knobs.noise) {
+        noise(rng, part)
+    } else {
+        let mut bench = Bench::new(rng, part, knobs);
+        bench.fill();
+        bench.out
+    };
+    if rng.chance(knobs.damage) {
+        damage(rng, &mut out);
+    }
+    out
+}
+
+/// Wholly random bytes, or random events of the right form.
+fn noise(rng: &mut Rng, part: u32) -> Vec<u8> {
+    let known = PARTS.get(part as usize).unwrap_or(&PARTS[0]);
+    let length = rng.below(600);
+    if rng.chance(300) {
+        return (0..length).map(|_| rng.byte()).collect();
+    }
+    let mut out = match known.wires {
+        Wires::Spi => vec![1, rng.byte() & 31],
+        Wires::I2c => vec![2, rng.byte() & 7, 0, rng.byte() & 31, rng.byte()],
+    };
+    for _ in 0..length {
+        let sample = match known.wires {
+            // Mostly selected and not held.
+            Wires::Spi if rng.chance(950) => rng.byte() & 14 | spi_pin::HOLD,
+            _ => rng.byte() & known.max_sample(),
+        };
+        match rng.below(600) {
+            0 => out.push(rng.byte()),
+            1 => out.extend([rng.byte() % 7, rng.byte()]),
+            2 => out.extend([5, 2]),
+            _ => out.extend([4, sample]),
+        }
+    }
+    out
+}
+
+/// Truncation, a changed byte, a byte more or a byte less.
+fn damage(rng: &mut Rng, out: &mut Vec<u8>) {
+    if out.is_empty() {
+        return;
+    }
+    let at = rng.below(out.len() as u64) as usize;
+    match rng.below(5) {
+        0 => out.truncate(at),
+        1 => out[at] = rng.byte(),
+        2 => out[at] ^= 1 << rng.below(8),
+        3 => out.insert(at, rng.byte() & 7),
+        _ => {
+            out.remove(at);
+        }
+    }
+}
+
+/// A trace under way, with the model that it is run on.
+struct Bench<'a> {
+    rng: &'a mut Rng,
+    knobs: &'a Knobs,
+    part: &'static Part,
+    model: Model,
+    memory: Vec<u8>,
+    out: Vec<u8>,
+    /// The sample last sent.
+    wires: u8,
+}
+
+impl<'a> Bench<'a> {
+    fn new(rng: &'a mut Rng, part: u32, knobs: &'a Knobs) -> Bench<'a> {
+        let (_, model) = Model::make(part, knobs.pins, knobs.bits);
+        Bench {
+            rng,
+            knobs,
+            part: model.part(),
+            memory: first_memory(model.part().size),
+            model,
+            out: Vec::new(),
+            wires: 0,
+        }
+    }
+
+    /// Power on, then commands or transfers.
+    fn fill(&mut self) {
+        self.power_on();
+        for _ in 0..1 + self.rng.below(self.knobs.blocks) {
+            match self.part.wires {
+                Wires::Spi => self.spi_block(),
+                Wires::I2c => self.i2c_block(),
+            }
+            if self.rng.chance(30) {
+                self.power_off_on();
+            }
+        }
+        if self.rng.chance(300) {
+            self.push(&[3]);
+        }
+    }
+
+    fn push(&mut self, event: &[u8]) {
+        self.out.extend_from_slice(event);
+        self.model.event(event, &mut self.memory);
+    }
+
+    fn power_on(&mut self) {
+        self.stray();
+        let any = self.rng.byte() & self.part.max_sample();
+        match self.part.wires {
+            Wires::Spi => {
+                let idle = spi_pin::CS | spi_pin::HOLD | any & (spi_pin::WP | spi_pin::SCK);
+                self.wires = if self.rng.chance(850) { idle } else { any };
+                self.push(&[1, self.wires]);
+            }
+            Wires::I2c => {
+                let idle = i2c_pin::SCL | i2c_pin::SDA;
+                self.wires = if self.rng.chance(850) { idle } else { any };
+                let start = self.address() % self.part.size as u32;
+                let [_, high, middle, low] = start.to_be_bytes();
+                self.push(&[2, self.wires, high, middle, low]);
+            }
+        }
+        self.stray();
+    }
+
+    fn power_off_on(&mut self) {
+        self.push(&[3]);
+        self.power_on();
+    }
+
+    /// An event that is refused for want of power or for power.
+    fn stray(&mut self) {
+        if self.rng.chance(self.knobs.stray) {
+            let kind = self.rng.pick(&[1, 2, 3, 4, 5]);
+            let powered = self.model.powered();
+            match kind {
+                1 if powered => self.push(&[1, 0]),
+                2 if powered => self.push(&[2, 0, 0, 0, 0]),
+                3 if !powered => self.push(&[3]),
+                4 | 5 if !powered => self.push(&[kind, 2]),
+                _ => {}
+            }
+        }
+    }
+
+    /// One sample; a right (or wrong) 05 or a power cut may follow.
+    fn send(&mut self, wires: u8) {
+        self.wires = wires;
+        self.push(&[4, wires]);
+        if self.rng.chance(self.knobs.expect) {
+            let answer = self.model.answer();
+            let wrong = self.rng.chance(self.knobs.wrong);
+            let value = if wrong {
+                (answer + 1 + self.rng.byte() % 2) % 3
+            } else {
+                answer
+            };
+            self.push(&[5, value]);
+        }
+        if self.rng.chance(self.knobs.cut) {
+            self.power_off_on();
+        }
+    }
+
+    /// Sends the wires with these bits set and those cleared.
+    fn change(&mut self, set: u8, clear: u8) {
+        self.send(self.wires & !clear | set);
+    }
+
+    /// Sends the wires with one bit high or low.
+    fn put(&mut self, wire: u8, high: bool) {
+        self.change(if high { wire } else { 0 }, wire);
+    }
+
+    /// An address near a border, near the top, near 0, or any; sometimes past the size.
+    fn address(&mut self) -> u32 {
+        let size = self.part.size as u32;
+        let border = self.rng.pick(&self.part.protected_from) as u32;
+        let near = self.rng.pick(&[border, size, 0x10000, 0, size / 2]);
+        let step = self.rng.below(4) as u32;
+        match self.rng.below(5) {
+            0 => self.rng.draw() as u32 & 0xff_ffff,
+            1 => near.wrapping_add(step) & 0xff_ffff,
+            2 => near.wrapping_add(size).wrapping_sub(step) & 0xff_ffff,
+            _ => near.wrapping_sub(step) % size,
+        }
+    }
+}

@@ -1,0 +1,204 @@
+//! "I2C rules": a part under power on the I2C bus.
+
+use crate::part::i2c_pin::{SCL, SDA, WP};
+use crate::part::Part;
+use crate::{LOW, NOTHING};
+
+/// What the word of a span asked for.
+#[derive(Clone, Copy, Debug, PartialEq, Eq)]
+enum Asked {
+    /// The word isn't whole yet.
+    Open,
+    Write,
+    Read,
+}
+
+/// The clocks since a START, nine to a byte.
+#[derive(Clone, Debug, PartialEq, Eq)]
+struct Span {
+    asked: Asked,
+    /// A16 of the word; 0 on part 3.
+    a16: u32,
+    /// Bytes with all nine clocks; the word is the first.
+    bytes: u64,
+    /// Clocks of the byte under way, 0 to 8.
+    clocks: u8,
+    /// The last eight data bits on the line.
+    byte: u8,
+    /// The first address byte.
+    high: u8,
+}
+
+/// An I2C part from power on to power off.
+#[derive(Clone, Debug, PartialEq, Eq)]
+pub struct I2c {
+    part: &'static Part,
+    pins: u8,
+    old: u8,
+    pull: bool,
+    /// The address buffer: n, and whether n was used.
+    n: u32,
+    used: bool,
+    /// None while the part rests or waits for START or STOP.
+    span: Option<Span>,
+}
+
+impl I2c {
+    /// At power on the part rests, and the buffer is "start address, unused".
+    pub fn power_on(part: &'static Part, pins: u8, sample: u8, start: u32) -> I2c {
+        I2c {
+            part,
+            pins,
+            old: sample,
+            pull: false,
+            n: start,
+            used: false,
+            span: None,
+        }
+    }
+
+    pub fn answer(&self) -> u8 {
+        if self.pull {
+            LOW
+        } else {
+            NOTHING
+        }
+    }
+
+    /// The next sample: START or STOP with SCL 1 in both, bits on rises, the pull on falls.
+    pub fn sample(&mut self, new: u8, memory: &mut [u8]) -> u8 {
+        let old = std::mem::replace(&mut self.old, new);
+        match (old & SCL != 0, new & SCL != 0) {
+            (true, true) => match (self.line(old), self.line(new)) {
+                (true, false) => self.start(),
+                (false, true) => self.stop(),
+                _ => {}
+            },
+            (false, true) => self.rise(new, memory),
+            (true, false) => self.pull = self.pulls(memory),
+            (false, false) => {}
+        }
+        self.answer()
+    }
+
+    /// The line is low if the sample's SDA is 0 or the part pulls.
+    fn line(&self, sample: u8) -> bool {
+        sample & SDA != 0 && !self.pull
+    }
+
+    /// START releases the line, drops unfinished bits and awaits a word.
+    fn start(&mut self) {
+        self.pull = false;
+        self.span = Some(Span {
+            asked: Asked::Open,
+            a16: 0,
+            bytes: 0,
+            clocks: 0,
+            byte: 0,
+            high: 0,
+        });
+    }
+
+    /// STOP releases the line, drops unfinished bits and rests.
+    fn stop(&mut self) {
+        self.pull = false;
+        self.span = None;
+    }
+
+    /// Bits enter on SCL rises.
+    fn rise(&mut self, new: u8, memory: &mut [u8]) {
+        let line = self.line(new);
+        let Some(span) = &mut self.span else { return };
+        if span.clocks == 8 {
+            span.clocks = 0;
+            span.bytes += 1;
+            self.ninth_rise(line, new & WP != 0, memory);
+            return;
+        }
+        span.clocks += 1;
+        span.byte = span.byte << 1 | u8::from(line);
+        if span.clocks == 8 && span.bytes == 0 {
+            self.word();
+        }
+    }
+
+    /// The word: 1010, then A2 A1 A0 (part 3) or A2 A1 A16 (part 4), then R/W. Another word gets
+    /// no acknowledge and the part waits for START or STOP.
+    fn word(&mut self) {
+        let Some(span) = &mut self.span else { return };
+        let word = span.byte;
+        let (pins, a16) = if self.part.number == 3 {
+            (word >> 1 & 7, 0)
+        } else {
+            (word >> 2 & 3, word >> 1 & 1)
+        };
+        if word >> 4 != 0b1010 || pins != self.pins {
+            self.span = None;
+            return;
+        }
+        span.a16 = u32::from(a16);
+        span.asked = if word & 1 == 0 {
+            Asked::Write
+        } else {
+            Asked::Read
+        };
+    }
+
+    /// The ninth rise of a byte, of which `bytes` are whole with it.
+    fn ninth_rise(&mut self, line: bool, wp: bool, memory: &mut [u8]) {
+        let Some(span) = &mut self.span else { return };
+        match (span.asked, span.bytes) {
+            // A read word. For part 4, bit 16 of n is first replaced by A16 of the word. It shows
+            // only here, since each read word replaces it and each address sets it anew.
+            (Asked::Read, 1) if self.part.number == 4 => {
+                self.n = span.a16 << 16 | self.n & 0xffff;
+            }
+            (Asked::Open, _) | (Asked::Read | Asked::Write, 1) => {}
+            (Asked::Write, 2) => span.high = span.byte,
+            (Asked::Write, 3) => {
+                let sent = span.a16 << 16 | u32::from(span.high) << 8 | u32::from(span.byte);
+                self.n = self.part.wrap(u64::from(sent)) as u32;
+                self.used = false;
+            }
+            (Asked::Write, _) => {
+                let byte = span.byte;
+                let address = self.use_next();
+                if !wp {
+                    memory[address] = byte;
+                }
+            }
+            // A byte read: the master's low asks for the next, high ends the transfer.
+            (Asked::Read, _) => {
+                if line {
+                    self.span = None;
+                }
+                self.use_next();
+            }
+        }
+    }
+
+    /// The part's pull after a SCL fall.
+    fn pulls(&self, memory: &[u8]) -> bool {
+        let Some(span) = &self.span else { return false };
+        match (span.asked, span.bytes) {
+            (Asked::Open, _) => false,
+            (Asked::Write, _) | (Asked::Read, 0) => span.clocks == 8,
+            (Asked::Read, _) => {
+                span.clocks < 8 && memory[self.next()] >> (7 - span.clocks) & 1 == 0
+            }
+        }
+    }
+
+    /// The address of the data byte under way: n if unused, else n + 1, rolled over.
+    fn next(&self) -> usize {
+        self.part.wrap(u64::from(self.n) + u64::from(self.used))
+    }
+
+    /// A data byte stored, dropped or read makes the buffer "its address, used".
+    fn use_next(&mut self) -> usize {
+        let address = self.next();
+        self.n = address as u32;
+        self.used = true;
+        address
+    }
+}

@@ -1,0 +1,238 @@
+//! "The ledger of demand 3": what memory and saved bits a cut leaves, told over selections and
+//! starts. It is fed the accepted events with their answers and calls nothing of the model; only
+//! the part table, the codes and the bits of a sample are shared.
+
+use crate::part::{i2c_pin, spi_pin, Op, Part, Wires, PARTS};
+
+/// The whole commands that decide an enable, in their order since power on.
+#[derive(Clone, Copy, Debug, PartialEq, Eq)]
+enum Mark {
+    Wren,
+    Wrdi,
+    /// A WRITE or WRSR with a whole data byte.
+    Data,
+}
+
+/// What the ledger knows of the time since power on.
+#[derive(Clone, Debug)]
+struct Since {
+    /// The last sample, and whether the line was high with its answer.
+    sample: u8,
+    line: bool,
+    marks: Vec<Mark>,
+    /// A whole SLEEP came, and no selection since.
+    slept: bool,
+    /// The bits of the open selection, or those since the last START.
+    open: Option<Vec<bool>>,
+}
+
+/// The bytes and bits as the permitted writes left them.
+#[derive(Clone, Debug)]
+pub struct Ledger {
+    part: &'static Part,
+    pins: u8,
+    memory: Vec<u8>,
+    bits: u8,
+    since: Option<Since>,
+}
+
+impl Ledger {
+    /// The bytes before the first event and the bits made. A refused making counts as that of
+    /// part 0 with zero pins and bits.
+    pub fn begin(part: u32, pins: u32, bits: u32, memory: &[u8]) -> Ledger {
+        let known = PARTS.get(part as usize);
+        let made = known.filter(|part| pins <= part.max_pins && bits <= part.max_bits);
+        let (part, pins, bits) = made.map_or((&PARTS[0], 0, 0), |part| (part, pins, bits));
+        Ledger {
+            part,
+            pins: pins as u8,
+            memory: memory.to_vec(),
+            bits: bits as u8,
+            since: None,
+        }
+    }
+
+    /// The memory, now and after a cut.
+    pub fn memory(&self) -> &[u8] {
+        &self.memory
+    }
+
+    /// The bits as they stand.
+    pub fn bits(&self) -> u8 {
+        self.bits
+    }
+
+    /// The bits after a cut: without power it changes nothing, else part 0 loses them.
+    pub fn bits_after_cut(&self) -> u8 {
+        if self.since.is_some() && !self.part.keeps_bits {
+            0
+        } else {
+            self.bits
+        }
+    }
+
+    /// An accepted event and its answer.
+    pub fn feed(&mut self, event: &[u8], answer: u8) {
+        match (event, self.part.wires) {
+            (&[1 | 2, sample, ..], wires) => {
+                self.since = Some(Since {
+                    sample,
+                    line: wires == Wires::I2c && line(sample, answer),
+                    marks: Vec::new(),
+                    slept: false,
+                    open: None,
+                });
+            }
+            (&[3, ..], _) => {
+                self.bits = self.bits_after_cut();
+                self.since = None;
+            }
+            (&[4, sample, ..], Wires::Spi) => self.spi_sample(sample),
+            (&[4, sample, ..], Wires::I2c) => self.i2c_sample(sample, answer),
+            _ => {}
+        }
+    }
+
+    fn spi_sample(&mut self, new: u8) {
+        use spi_pin::{CS, HOLD, SCK, SI};
+        let Some(since) = &mut self.since else { return };
+        let old = std::mem::replace(&mut since.sample, new);
+        let selected = |sample: u8| sample & CS == 0;
+        let running = |sample: u8| sample & (CS | HOLD) == HOLD;
+        let high = |sample: u8| sample & SCK != 0;
+        if !selected(old) && selected(new) {
+            // The selection after a whole SLEEP counts as none.
+            let none = std::mem::take(&mut since.slept);
+            since.open = (!none).then(Vec::new);
+        } else if selected(old) && !selected(new) {
+            if let Some(bits) = since.open.take() {
+                self.selection_ends(&bits, new);
+            }
+        } else if running(old) && running(new) && !high(old) && high(new) {
+            if let Some(bits) = &mut since.open {
+                bits.push(new & SI != 0);
+                self.selection_grew();
+            }
+        }
+    }
+
+    /// A counted rise came: a data byte of a WRITE may be whole with it.
+    fn selection_grew(&mut self) {
+        let Some(since) = &self.since else { return };
+        let Some(bits) = &since.open else { return };
+        let head = self.head();
+        if bits.len() <= head || bits.len() % 8 != 0 || !since.enabled() {
+            return;
+        }
+        if self.op(bits) != Some(Op::Write) {
+            return;
+        }
+        let behind = (bits.len() - head) / 8 - 1;
+        let address = (number(&bits[8..head]) + behind) % self.part.size;
+        let byte = number(&bits[bits.len() - 8..]) as u8;
+        if address < self.part.protected_from[usize::from(self.bits % 4)] {
+            self.memory[address] = byte;
+        }
+    }
+
+    /// CS# rose: WREN, WRDI and SLEEP are whole after their code, WRSR with a data byte.
+    fn selection_ends(&mut self, bits: &[bool], sample: u8) {
+        let op = self.op(bits);
+        let head = self.head();
+        let Some(since) = &mut self.since else { return };
+        match op {
+            Some(Op::Wren) => since.marks.push(Mark::Wren),
+            Some(Op::Wrdi) => since.marks.push(Mark::Wrdi),
+            Some(Op::Sleep) => since.slept = true,
+            Some(Op::Write) if bits.len() >= head + 8 => since.marks.push(Mark::Data),
+            Some(Op::Wrsr) if bits.len() >= 16 => {
+                let locked = self.bits >= 4 && sample & spi_pin::WP == 0;
+                if since.enabled() && !locked {
+                    let taken = [bits[8], bits[12], bits[13]];
+                    self.bits = number(&taken) as u8;
+                }
+                since.marks.push(Mark::Data);
+            }
+            _ => {}
+        }
+    }
+
+    /// The command of a selection whose code is whole.
+    fn op(&self, bits: &[bool]) -> Option<Op> {
+        let code = bits.get(..8)?;
+        self.part.op(number(code) as u8)
+    }
+
+    /// The bits of code and address.
+    fn head(&self) -> usize {
+        8 + self.part.address_bits as usize
+    }
+
+    fn i2c_sample(&mut self, new: u8, answer: u8) {
+        use i2c_pin::{SCL, WP};
+        let Some(since) = &mut self.since else { return };
+        let old = std::mem::replace(&mut since.sample, new);
+        let now = line(new, answer);
+        let before = std::mem::replace(&mut since.line, now);
+        match (old & SCL != 0, new & SCL != 0) {
+            // START begins a span and STOP ends it.
+            (true, true) if before && !now => since.open = Some(Vec::new()),
+            (true, true) if !before && now => since.open = None,
+            (false, true) => {
+                if let Some(bits) = &mut since.open {
+                    bits.push(now);
+                    if bits.len() % 9 == 0 && new & WP == 0 {
+                        self.span_grew();
+                    }
+                }
+            }
+            _ => {}
+        }
+    }
+
+    /// A byte became whole with WP 0: if it is data after the part's write word, it is written.
+    fn span_grew(&mut self) {
+        let Some(bits) = self.since.as_ref().and_then(|since| since.open.as_ref()) else {
+            return;
+        };
+        let bytes = bits.len() / 9;
+        let byte = |k: usize| number(&bits[9 * k..9 * k + 8]);
+        let own = self
+            .write_words()
+            .iter()
+            .position(|&word| usize::from(word) == byte(0));
+        let (Some(a16), 4..) = (own, bytes) else {
+            return;
+        };
+        let sent = a16 * 0x10000 + byte(1) * 0x100 + byte(2);
+        let address = (sent + bytes - 4) % self.part.size;
+        let byte = byte(bytes - 1) as u8;
+        self.memory[address] = byte;
+    }
+
+    /// The part's write words, by their A16: one for part 3, two for part 4.
+    fn write_words(&self) -> Vec<u8> {
+        if self.part.number == 3 {
+            vec![0xa0 + 2 * self.pins]
+        } else {
+            vec![0xa0 + 4 * self.pins, 0xa2 + 4 * self.pins]
+        }
+    }
+}
+
+impl Since {
+    /// A whole WREN came with no whole WRDI and no WRITE or WRSR with a whole data byte after it.
+    fn enabled(&self) -> bool {
+        self.marks.last() == Some(&Mark::Wren)
+    }
+}
+
+/// The line is low at a sample with SDA 0 or answer 0.
+fn line(sample: u8, answer: u8) -> bool {
+    sample & i2c_pin::SDA != 0 && answer != 0
+}
+
+/// Bits as a number, most significant first.
+fn number(bits: &[bool]) -> usize {
+    bits.iter().fold(0, |sum, &bit| 2 * sum + usize::from(bit))
+}

@@ -1,0 +1,23 @@
+//! An independent model of the five parts of the scope paper, kept as a second opinion: it is
+//! written from the paper alone and shares no line with the build that it is compared with.
+
+#![forbid(unsafe_code)]
+
+pub mod gen;
+pub mod i2c;
+pub mod ledger;
+pub mod model;
+pub mod part;
+pub mod spi;
+pub mod text;
+
+pub use ledger::Ledger;
+pub use model::{Model, Ran};
+pub use part::{Part, PARTS};
+
+/// The answer low.
+pub const LOW: u8 = 0;
+/// The answer high. I2C never gives it.
+pub const HIGH: u8 = 1;
+/// The answer when nothing is driven.
+pub const NOTHING: u8 = 2;

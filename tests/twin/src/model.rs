@@ -1,0 +1,225 @@
+//! "Models and events" and "Numbers given back": making, one event, and trace runs.
+
+use crate::i2c::I2c;
+use crate::part::{Part, Wires, PARTS};
+use crate::spi::Spi;
+use crate::NOTHING;
+
+#[derive(Clone, Debug, PartialEq, Eq)]
+enum Power {
+    Off,
+    Spi(Spi),
+    I2c(I2c),
+}
+
+/// A model. Its states are those that its own calls reach, so the numbers 1 and 2 arise only at
+/// making.
+#[derive(Clone, Debug, PartialEq, Eq)]
+pub struct Model {
+    part: &'static Part,
+    pins: u8,
+    /// SRWD BP1 BP0 as kept without power; under power the bus holds them.
+    saved: u8,
+    power: Power,
+}
+
+/// What a run gives back besides the model.
+#[derive(Clone, Copy, Debug, PartialEq, Eq)]
+pub struct Ran {
+    /// The number of the refused event, or 0.
+    pub number: u8,
+    /// Accepted events.
+    pub count: u64,
+    /// Offset of the first kind byte not accepted.
+    pub offset: u64,
+}
+
+/// An event whose bytes are in order (numbers 4, 5 and 6 do not hold).
+#[derive(Clone, Copy)]
+enum Event {
+    SpiOn(u8),
+    I2cOn(u8, u32),
+    Off,
+    Sample(u8),
+    Expect(u8),
+}
+
+impl Model {
+    /// Number 1: part, address pins or saved bits out of range; the model is then that of part 0.
+    pub fn make(part: u32, pins: u32, bits: u32) -> (u8, Model) {
+        let known = PARTS.get(part as usize);
+        match known.filter(|part| pins <= part.max_pins && bits <= part.max_bits) {
+            Some(part) => (0, Model::unpowered(part, pins as u8, bits as u8)),
+            None => (1, Model::unpowered(&PARTS[0], 0, 0)),
+        }
+    }
+
+    fn unpowered(part: &'static Part, pins: u8, saved: u8) -> Model {
+        Model {
+            part,
+            pins,
+            saved,
+            power: Power::Off,
+        }
+    }
+
+    pub fn part(&self) -> &'static Part {
+        self.part
+    }
+
+    pub fn pins(&self) -> u32 {
+        u32::from(self.pins)
+    }
+
+    /// SRWD BP1 BP0 as they stand.
+    pub fn bits(&self) -> u8 {
+        match &self.power {
+            Power::Spi(spi) => spi.bits(),
+            Power::Off | Power::I2c(_) => self.saved,
+        }
+    }
+
+    pub fn powered(&self) -> bool {
+        self.power != Power::Off
+    }
+
+    /// The present answer.
+    pub fn answer(&self) -> u8 {
+        match &self.power {
+            Power::Off => NOTHING,
+            Power::Spi(spi) => spi.answer(),
+            Power::I2c(i2c) => i2c.answer(),
+        }
+    }
+
+    /// One event from the front of the bytes: number and answer. A refused event leaves the model
+    /// and the memory as they were and answers 2.
+    pub fn event(&mut self, bytes: &[u8], memory: &mut [u8]) -> (u8, u8) {
+        if memory.len() != self.part.size {
+            return (3, NOTHING);
+        }
+        match self.step(bytes, memory) {
+            Ok((answer, _)) => (0, answer),
+            Err(number) => (number, NOTHING),
+        }
+    }
+
+    /// A trace run that appends the answers of the accepted events.
+    pub fn run(
+        &mut self,
+        trace: &[u8],
+        quota: u64,
+        memory: &mut [u8],
+        answers: &mut Vec<u8>,
+    ) -> Ran {
+        self.run_each(trace, quota, memory, |answer| answers.push(answer))
+    }
+
+    /// A trace run that hands each answer on. It stops when the quota is used, the trace ends or
+    /// an event is refused, and tests the memory first, whatever the trace and the quota.
+    pub fn run_each(
+        &mut self,
+        trace: &[u8],
+        quota: u64,
+        memory: &mut [u8],
+        mut each: impl FnMut(u8),
+    ) -> Ran {
+        let mut ran = Ran {
+            number: 0,
+            count: 0,
+            offset: 0,
+        };
+        if memory.len() != self.part.size {
+            ran.number = 3;
+            return ran;
+        }
+        let mut rest = trace;
+        while ran.count < quota && !rest.is_empty() {
+            match self.step(rest, memory) {
+                Ok((answer, length)) => {
+                    each(answer);
+                    ran.count += 1;
+                    rest = &rest[length..];
+                }
+                Err(number) => {
+                    ran.number = number;
+                    break;
+                }
+            }
+        }
+        ran.offset = (trace.len() - rest.len()) as u64;
+        ran
+    }
+
+    /// The event in front: its answer and its length, or its number from 4 to 9.
+    #[inline]
+    fn step(&mut self, bytes: &[u8], memory: &mut [u8]) -> Result<(u8, usize), u8> {
+        let (event, length) = read(self.part, bytes)?;
+        let answer = self.act(event, memory)?;
+        Ok((answer, length))
+    }
+
+    /// Numbers 7 to 9, then the event itself.
+    #[inline]
+    fn act(&mut self, event: Event, memory: &mut [u8]) -> Result<u8, u8> {
+        match (event, &mut self.power) {
+            (Event::Sample(sample), Power::Spi(spi)) => Ok(spi.sample(sample, memory)),
+            (Event::Sample(sample), Power::I2c(i2c)) => Ok(i2c.sample(sample, memory)),
+            (Event::Off | Event::Sample(_) | Event::Expect(_), Power::Off) => Err(7),
+            (Event::SpiOn(sample), Power::Off) => {
+                self.power = Power::Spi(Spi::power_on(self.part, self.saved, sample));
+                Ok(NOTHING)
+            }
+            (Event::I2cOn(sample, start), Power::Off) => {
+                self.power = Power::I2c(I2c::power_on(self.part, self.pins, sample, start));
+                Ok(NOTHING)
+            }
+            (Event::SpiOn(_) | Event::I2cOn(..), _) => Err(8),
+            (Event::Off, _) => {
+                self.saved = if self.part.keeps_bits { self.bits() } else { 0 };
+                self.power = Power::Off;
+                Ok(NOTHING)
+            }
+            (Event::Expect(value), _) => {
+                let answer = self.answer();
+                if value == answer {
+                    Ok(answer)
+                } else {
+                    Err(9)
+                }
+            }
+        }
+    }
+}
+
+/// Numbers 4, 5 and 6, in this order; else the event and its length.
+#[inline]
+fn read(part: &Part, bytes: &[u8]) -> Result<(Event, usize), u8> {
+    let sample_in_range = |sample: u8| in_range(sample <= part.max_sample());
+    match (bytes, part.wires) {
+        (&[], _) => Err(5),
+        (&[4, sample, ..], _) => sample_in_range(sample).map(|()| (Event::Sample(sample), 2)),
+        (&[5, value, ..], _) => in_range(value <= 2).map(|()| (Event::Expect(value), 2)),
+        (&[3, ..], _) => Ok((Event::Off, 1)),
+        (&[1, sample, ..], Wires::Spi) => {
+            sample_in_range(sample).map(|()| (Event::SpiOn(sample), 2))
+        }
+        (&[2, sample, high, middle, low, ..], Wires::I2c) => {
+            let start = u32::from_be_bytes([0, high, middle, low]);
+            sample_in_range(sample)?;
+            in_range((start as usize) < part.size)?;
+            Ok((Event::I2cOn(sample, start), 5))
+        }
+        // A kind that the bus has, and the trace ends inside its event.
+        (&[4 | 5, ..], _) | (&[1, ..], Wires::Spi) | (&[2, ..], Wires::I2c) => Err(5),
+        _ => Err(4),
+    }
+}
+
+fn in_range(holds: bool) -> Result<(), u8> {
+    if holds {
+        Ok(())
+    } else {
+        Err(6)
+    }
+}

@@ -1,0 +1,169 @@
+//! "The five parts": the one constant table, the SPI codes and the bits of a sample.
+
+/// SPI sample: bit 0 CS#, 1 SCK, 2 SI, 3 WP#, 4 HOLD#; 0 to 31.
+pub mod spi_pin {
+    pub const CS: u8 = 1;
+    pub const SCK: u8 = 2;
+    pub const SI: u8 = 4;
+    pub const WP: u8 = 8;
+    pub const HOLD: u8 = 16;
+}
+
+/// I2C sample: bit 0 SCL, 1 SDA as others drive it, 2 WP; 0 to 7.
+pub mod i2c_pin {
+    pub const SCL: u8 = 1;
+    pub const SDA: u8 = 2;
+    pub const WP: u8 = 4;
+}
+
+#[derive(Clone, Copy, Debug, PartialEq, Eq)]
+pub enum Wires {
+    Spi,
+    I2c,
+}
+
+/// The nine SPI commands.
+#[derive(Clone, Copy, Debug, PartialEq, Eq)]
+pub enum Op {
+    Wren,
+    Wrdi,
+    Rdsr,
+    Wrsr,
+    Read,
+    Write,
+    Fstrd,
+    Rdid,
+    Sleep,
+}
+
+/// The codes that each SPI part knows.
+const SIX: [(u8, Op); 6] = [
+    (0x06, Op::Wren),
+    (0x04, Op::Wrdi),
+    (0x05, Op::Rdsr),
+    (0x01, Op::Wrsr),
+    (0x03, Op::Read),
+    (0x02, Op::Write),
+];
+
+/// One line of the table.
+#[derive(Debug, PartialEq, Eq)]
+pub struct Part {
+    pub number: u32,
+    pub name: &'static str,
+    pub wires: Wires,
+    /// Bytes of memory; each size is a power of two.
+    pub size: usize,
+    /// Address bits that a SPI command carries, or those of the two I2C address bytes.
+    pub address_bits: u64,
+    /// The commands besides the six.
+    pub more: &'static [(u8, Op)],
+    /// What RDID shows.
+    pub id: [u8; 3],
+    /// The highest number of the address pins at making.
+    pub max_pins: u32,
+    /// The highest number of the saved bits at making.
+    pub max_bits: u32,
+    /// Whether the status bits outlive a loss of power.
+    pub keeps_bits: bool,
+    /// Where the protected range starts, by BP1 BP0; the size itself for 00.
+    pub protected_from: [usize; 4],
+}
+
+pub static PARTS: [Part; 5] = [
+    Part {
+        number: 0,
+        name: "MR45V032A",
+        wires: Wires::Spi,
+        size: 4_096,
+        address_bits: 16,
+        more: &[],
+        id: [0; 3],
+        max_pins: 0,
+        max_bits: 0,
+        keeps_bits: false,
+        protected_from: [0x1000, 0xc00, 0x800, 0],
+    },
+    Part {
+        number: 1,
+        name: "MR45V100A",
+        wires: Wires::Spi,
+        size: 131_072,
+        address_bits: 24,
+        more: &[(0x0b, Op::Fstrd), (0x9f, Op::Rdid), (0xb9, Op::Sleep)],
+        id: [0xae, 0x83, 0x09],
+        max_pins: 0,
+        max_bits: 7,
+        keeps_bits: true,
+        protected_from: [0x20000, 0x18000, 0x10000, 0],
+    },
+    Part {
+        number: 2,
+        name: "MR45V200B",
+        wires: Wires::Spi,
+        size: 262_144,
+        address_bits: 24,
+        more: &[(0x9f, Op::Rdid)],
+        id: [0xae, 0x83, 0x1a],
+        max_pins: 0,
+        max_bits: 7,
+        keeps_bits: true,
+        protected_from: [0x40000, 0x30000, 0x20000, 0],
+    },
+    Part {
+        number: 3,
+        name: "MR44V064B",
+        wires: Wires::I2c,
+        size: 8_192,
+        address_bits: 16,
+        more: &[],
+        id: [0; 3],
+        max_pins: 7,
+        max_bits: 0,
+        keeps_bits: false,
+        protected_from: [0x2000; 4],
+    },
+    Part {
+        number: 4,
+        name: "MS85RC1MTY",
+        wires: Wires::I2c,
+        size: 131_072,
+        address_bits: 16,
+        more: &[],
+        id: [0; 3],
+        max_pins: 3,
+        max_bits: 0,
+        keeps_bits: false,
+        protected_from: [0x20000; 4],
+    },
+];
+
+impl Part {
+    /// "An address counts modulo the size."
+    pub fn wrap(&self, address: u64) -> usize {
+        address as usize & (self.size - 1)
+    }
+
+    /// The command of a code, if this part has it.
+    pub fn op(&self, code: u8) -> Option<Op> {
+        let find = |&&(known, _): &&(u8, Op)| known == code;
+        let found = SIX
+            .iter()
+            .find(find)
+            .or_else(|| self.more.iter().find(find));
+        found.map(|&(_, op)| op)
+    }
+
+    /// The highest sample number.
+    pub fn max_sample(&self) -> u8 {
+        match self.wires {
+            Wires::Spi => 31,
+            Wires::I2c => 7,
+        }
+    }
+
+    /// Whether these bits (SRWD BP1 BP0) protect this address.
+    pub fn protects(&self, bits: u8, address: usize) -> bool {
+        address >= self.protected_from[usize::from(bits & 3)]
+    }
+}

@@ -1,0 +1,161 @@
+//! The line format of the vectors, and what the programs print.
+
+use crate::model::{Model, Ran};
+
+/// One line: part pins bits trace number count offset answers changed.
+#[derive(Clone, Debug, PartialEq, Eq)]
+pub struct Line {
+    pub part: u32,
+    pub pins: u32,
+    pub bits: u32,
+    pub trace: Vec<u8>,
+    pub ran: Ran,
+    pub answers: Vec<u8>,
+    pub changed: Vec<(usize, u8)>,
+}
+
+/// The first memory of the vectors.
+pub fn first_memory(size: usize) -> Vec<u8> {
+    (0..size).map(first_byte).collect()
+}
+
+/// The byte at address i is (37 * i + 11) mod 256.
+pub fn first_byte(address: usize) -> u8 {
+    (37 * address + 11) as u8
+}
+
+impl Line {
+    /// Runs a trace with unlimited quota from the first memory. A refused making is the model of
+    /// part 0.
+    pub fn play(part: u32, pins: u32, bits: u32, trace: &[u8]) -> Line {
+        let (_, mut model) = Model::make(part, pins, bits);
+        let mut memory = first_memory(model.part().size);
+        let mut answers = Vec::new();
+        let ran = model.run(trace, u64::MAX, &mut memory, &mut answers);
+        let differs = |&(address, byte): &(usize, u8)| byte != first_byte(address);
+        Line {
+            part,
+            pins,
+            bits,
+            trace: trace.to_vec(),
+            ran,
+            answers,
+            changed: memory.into_iter().enumerate().filter(differs).collect(),
+        }
+    }
+
+    /// Reads a line; None if it isn't one.
+    pub fn parse(line: &str) -> Option<Line> {
+        let fields: Vec<&str> = line.split_whitespace().collect();
+        let &[part, pins, bits, trace, number, count, offset, answers, changed] = &fields[..]
+        else {
+            return None;
+        };
+        Some(Line {
+            part: part.parse().ok()?,
+            pins: pins.parse().ok()?,
+            bits: bits.parse().ok()?,
+            trace: parse_hex(trace)?,
+            ran: Ran {
+                number: number.parse().ok()?,
+                count: count.parse().ok()?,
+                offset: offset.parse().ok()?,
+            },
+            answers: parse_answers(answers)?,
+            changed: parse_changed(changed)?,
+        })
+    }
+}
+
+impl std::fmt::Display for Line {
+    fn fmt(&self, to: &mut std::fmt::Formatter<'_>) -> std::fmt::Result {
+        let trace: String = self
+            .trace
+            .iter()
+            .map(|byte| format!("{byte:02x}"))
+            .collect();
+        let answers: String = self.answers.iter().map(|&answer| letter(answer)).collect();
+        let cell = |(address, byte): &(usize, u8)| format!("{address:05x}={byte:02x}");
+        let changed: Vec<String> = self.changed.iter().map(cell).collect();
+        write!(
+            to,
+            "{} {} {} {} ",
+            self.part,
+            self.pins,
+            self.bits,
+            or_dash(&trace)
+        )?;
+        write!(
+            to,
+            "{} {} {} ",
+            self.ran.number, self.ran.count, self.ran.offset
+        )?;
+        write!(to, "{} {}", or_dash(&answers), or_dash(&changed.join(",")))
+    }
+}
+
+/// An answer as 0, 1 or Z.
+pub fn letter(answer: u8) -> char {
+    match answer {
+        0 => '0',
+        1 => '1',
+        _ => 'Z',
+    }
+}
+
+/// What the program for a part prints for its input: answers, 64 to a line, then the result.
+pub fn program(part: u32, input: &[u8]) -> String {
+    if input.len() > 65_536 {
+        return "too long\n".to_string();
+    }
+    let (_, mut model) = Model::make(part, 0, 0);
+    let mut memory = vec![0; model.part().size];
+    let mut answers = Vec::new();
+    let ran = model.run(input, u64::MAX, &mut memory, &mut answers);
+    let mut out = String::new();
+    for line in answers.chunks(64) {
+        out.extend(line.iter().map(|&answer| letter(answer)));
+        out.push('\n');
+    }
+    out + &format!("{} {} {}\n", ran.number, ran.count, ran.offset)
+}
+
+fn or_dash(text: &str) -> &str {
+    if text.is_empty() {
+        "-"
+    } else {
+        text
+    }
+}
+
+/// Hex digits, or '-' for none.
+pub fn parse_hex(text: &str) -> Option<Vec<u8>> {
+    if text == "-" {
+        return Some(Vec::new());
+    }
+    if !text.is_ascii() || !text.len().is_multiple_of(2) {
+        return None;
+    }
+    let byte = |at: usize| u8::from_str_radix(&text[at..at + 2], 16).ok();
+    (0..text.len()).step_by(2).map(byte).collect()
+}
+
+fn parse_answers(text: &str) -> Option<Vec<u8>> {
+    if text == "-" {
+        return Some(Vec::new());
+    }
+    let answer = |letter: char| "01Z".find(letter).map(|place| place as u8);
+    text.chars().map(answer).collect()
+}
+
+fn parse_changed(text: &str) -> Option<Vec<(usize, u8)>> {
+    if text == "-" {
+        return Some(Vec::new());
+    }
+    let cell = |cell: &str| {
+        let (address, byte) = cell.split_once('=')?;
+        let address = usize::from_str_radix(address, 16).ok()?;
+        Some((address, u8::from_str_radix(byte, 16).ok()?))
+    };
+    text.split(',').map(cell).collect()
+}

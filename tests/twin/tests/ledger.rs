@@ -1,0 +1,111 @@
+//! Demand 3: after a cut at any event, memory and saved bits are those of the ledger.
+
+use twin::gen::{self, Case, Rng};
+use twin::text::first_memory;
+use twin::{Ledger, Model};
+
+/// The bytes of the event in front, as far as they are there; an unknown kind is one byte.
+fn front(trace: &[u8]) -> &[u8] {
+    let length = [1, 2, 5, 1, 2, 2]
+        .get(usize::from(trace[0]))
+        .copied()
+        .unwrap_or(1);
+    &trace[..length.min(trace.len())]
+}
+
+/// A cut leaves the unpowered model of the ledger's bits, and the ledger's memory.
+fn compare_cut(model: &Model, memory: &mut [u8], ledger: &Ledger) {
+    let mut cut = model.clone();
+    cut.event(&[3], memory);
+    let part = model.part().number;
+    let (number, fresh) = Model::make(part, model.pins(), u32::from(ledger.bits_after_cut()));
+    assert_eq!((number, cut), (0, fresh));
+    assert!(memory == ledger.memory(), "memory differs");
+    assert_eq!(model.bits(), ledger.bits());
+}
+
+/// Feeds the events of a trace, refused ones in between included; returns the events that changed
+/// the memory or the bits.
+fn follow(case: &Case, rng: &mut Rng) -> u64 {
+    let (_, mut model) = Model::make(case.part, case.pins, case.bits);
+    let mut memory = first_memory(model.part().size);
+    let mut ledger = Ledger::begin(case.part, case.pins, case.bits, &memory);
+    let mut rest = &case.trace[..];
+    let mut changes = 0;
+    compare_cut(&model, &mut memory, &ledger);
+    while !rest.is_empty() {
+        let junk = [rng.byte() % 8, rng.byte()];
+        let event = if rng.chance(5) {
+            &junk[..]
+        } else {
+            front(rest)
+        };
+        if event != junk {
+            rest = &rest[event.len()..];
+        }
+        let before = model.clone();
+        let (number, answer) = model.event(event, &mut memory);
+        if number == 0 {
+            changes += u64::from(memory != ledger.memory() || model.bits() != ledger.bits());
+            ledger.feed(event, answer);
+        } else {
+            assert_eq!((&model, answer), (&before, 2));
+        }
+        compare_cut(&model, &mut memory, &ledger);
+    }
+    changes
+}
+
+/// So many generated traces of a part.
+fn follow_part(part: u32, traces: u64) {
+    let mut rng = Rng::new(0xced6e5 + u64::from(part));
+    let mut changes = 0;
+    for _ in 0..traces {
+        let case = gen::case_of(&mut rng, part);
+        changes += follow(&case, &mut rng);
+    }
+    assert!(
+        2 * changes > traces,
+        "only {changes} writes in {traces} traces"
+    );
+}
+
+#[test]
+fn part_0() {
+    follow_part(0, 200);
+}
+
+#[test]
+fn part_1() {
+    follow_part(1, 100);
+}
+
+#[test]
+fn part_2() {
+    follow_part(2, 100);
+}
+
+#[test]
+fn part_3() {
+    follow_part(3, 200);
+}
+
+#[test]
+fn part_4() {
+    follow_part(4, 100);
+}
+
+#[test]
+fn a_refused_making_is_part_0() {
+    let mut rng = Rng::new(5);
+    let trace = gen::trace(&mut rng, 0);
+    follow(
+        &Case {
+            part: 9,
+            pins: 1,
+            bits: 1,
+            trace,
+        },
+        &mut rng,
+    );
+}
