@@ -18,3 +18,4 @@ pub mod SpiAnswers
 pub mod SpiAnswersShown
 pub mod SpiAnswersBytes
 pub mod SpiAnswersExample
+pub mod Answers

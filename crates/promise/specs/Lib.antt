@@ -4,3 +4,4 @@ pub mod Ledger
 pub mod Promise
 pub mod I2cAnswers
 pub mod SpiAnswers
+pub mod Answers
