@@ -1,3 +1,4 @@
 pub mod CheckLaws
 pub mod Keeps
 pub mod Stays
+pub mod ApartLaws

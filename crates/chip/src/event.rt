@@ -5,6 +5,7 @@ ghost use Rattle.spi.specs.Sample as SpiSample;
 ghost use Rattle.i2c.specs.Sample as I2cSample;
 ghost use Rattle.chip.specs.Model.{modelOf};
 ghost use Rattle.chip.specs.Event.{accepted, refused, expected, poweredOn, poweredOff, onUnpowered, onSpi, onI2c, advanceOf, Sound};
+ghost use Rattle.chip.specs.Apart.{underPower, apartOf};
 use crate::model::BusState;
 use crate::model::Model;
 use i2c::sample::I2c;
@@ -54,7 +55,7 @@ fn expect(model: Model, present: Answer, value: u8) -> Answered
     }
 }
 
-fn with_bus(model: Model, status: Status, bus: BusState) -> Model
+pub fn with_bus(model: Model, status: Status, bus: BusState) -> Model
     ensures { λ r. ⌜ r ≡ modelOf (model .part) (model .pins) status bus ⌝ }
 {
     Model {
@@ -173,5 +174,40 @@ pub fn advance(part: Part, model: Model, event: Event, memory: &mut [u8]) -> Ans
         BusState::Unpowered => on_unpowered(model, event),
         BusState::SpiOn { spi } => on_spi(part, model, spi, event, memory),
         BusState::I2cOn { i2c } => on_i2c(part, model, i2c, event, memory),
+    }
+}
+
+// An event other than a sample of a part under power, whose present answer this is.
+fn under_power(part: Part, model: Model, present: Answer, event: Event) -> Answered
+    ensures { λ r. ⌜ r ≡ underPower part model present event ⌝ }
+{
+    match event {
+        Event::SpiPowerOn { sample: _ } => refuse(Refusal::Powered, model),
+        Event::I2cPowerOn {
+            sample: _,
+            start: _,
+        } => refuse(Refusal::Powered, model),
+        Event::PowerOff => power_off(part, model),
+        Event::Sample { sample: _ } => refuse(Refusal::Unpowered, model),
+        Event::Expected { answer } => expect(model, present, answer),
+    }
+}
+
+// An event that is no sample under power: it stores nothing, so it takes no memory.
+pub fn apart(part: Part, model: Model, event: Event) -> Answered
+    ensures { λ r. ⌜ r ≡ apartOf part model event ⌝ }
+{
+    let bus = model.bus;
+    match bus {
+        BusState::Unpowered => on_unpowered(model, event),
+        BusState::SpiOn { spi } => {
+            let last = spi.last;
+            let shown = spi.shown;
+            under_power(part, model, spi::show::answer_at(last, shown), event)
+        }
+        BusState::I2cOn { i2c } => {
+            let present = i2c::sample::answer_of(i2c.pulling);
+            under_power(part, model, present, event)
+        }
     }
 }

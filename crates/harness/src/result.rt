@@ -22,7 +22,7 @@ fn put_number(buffer: &mut [u8], start: usize, value: u64)
     let mut at = start;
     while 0 < left {
         left -= 1;
-        model::run::note(&mut *buffer, at, byte_of(value, left));
+        samples::note::note(&mut *buffer, at, byte_of(value, left));
         at += 1;
     }
 }

@@ -70,7 +70,7 @@ module _ (p : Part) (pins : ℕ) (b : AddressBuffer) (d : Placed p pins b) where
       by false false e = (next-within (p .size) a (d .fit .positive), none-in)
 
 -- what a rise of SCL writes lies within the part
-rise-write-within : (p : Part) (ph : Phase) (wp : Bool) → PhaseIn p ph → Within (p .size) (riseWrite ph wp)
+pub rise-write-within : (p : Part) (ph : Phase) (wp : Bool) → PhaseIn p ph → Within (p .size) (riseWrite ph wp)
 rise-write-within p Rest wp i = tt
 rise-write-within p Deaf wp i = tt
 rise-write-within p (Taking f n v) wp i = by (ltb n 8)

@@ -24,22 +24,18 @@ fn line_of(sda: bool, pulling: bool) -> bool
 fn edge_on(was: bool, scl: bool, before: bool, line: bool) -> Edge
     ensures { λ r. ⌜ r ≡ edgeOn was scl before line ⌝ }
 {
-    if was {
-        if scl {
+    if scl {
+        if was {
             if before {
                 if line { Edge::Quiet } else { Edge::Start }
             } else {
                 if line { Edge::Stop } else { Edge::Quiet }
             }
         } else {
-            Edge::Fall
+            Edge::Rise { line }
         }
     } else {
-        if scl {
-            Edge::Rise { line }
-        } else {
-            Edge::Quiet
-        }
+        if was { Edge::Fall } else { Edge::Quiet }
     }
 }
 

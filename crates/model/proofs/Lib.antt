@@ -1,5 +1,6 @@
 pub mod EventLaws
 pub mod RunLaws
+pub mod SamplesRun
 pub mod RunRule
 pub mod RunCounts
 pub mod Examples

@@ -8,7 +8,7 @@ use native.Mathlib.Numerals.{add-one}
 use native.Mathlib.Omega.{arith}
 use lib.Dec.{eqb}
 use lib.ListN.{length, take, drop, set, getD, length-drop}
-use lib.Seq.{drop-drop, take-all, sets}
+use lib.Seq.{drop-drop, sets}
 use borrow.Author.Tests.{eq-eqb, ne-eqb}
 use Rattle.parts.specs.declared.part.Part.{Part}
 use Rattle.parts.specs.declared.refusal.Refusal.{Refusal}
@@ -23,6 +23,7 @@ use Rattle.chip.specs.declared.event.Answered.{Answered}
 use Rattle.chip.specs.declared.model.Model.{Model}
 use Rattle.chip.specs.Event.{Outcome, Sound, advanceOf}
 use Rattle.chip.proofs.Stays.{stays}
+use Rattle.samples.proofs.SamplesLaws.{tail-part}
 use Rattle.model.specs.declared.run.Ran.{Ran}
 use Rattle.model.specs.Event.{eventOf}
 use Rattle.model.specs.Run.{Run, ran, ranOf, stop, after, loopOf}
@@ -51,10 +52,6 @@ module _ (t : List ℕ) (s : Model) (m : List ℕ) where
       ≡ after (eventOf s m t .result .answer) (taken t) (loopOf q (drop (taken t) t) (eventOf s m t .result .model) (eventOf s m t .memory))
   unfolding loopOf
   loop-accepted q h n = rw (ne-eqb _ _ h, eq-eqb _ _ n)
-
--- the part of t from o on, as a slice of it has it
-pub tail-part : (t : List ℕ) (o : ℕ) → take (length t - o) (drop o t) ≡ drop o t
-tail-part t o = take-all (length t - o) (drop o t) (rw length-drop (omega arith))
 
 -- what is read there, of the part of the state
 pub read-on : (p : Part) (s : Model) (t : List ℕ) (o : ℕ) {r : Read} → p ≡ partOf (s .part) → readOf p (take (length t - o) (drop o t)) ≡ r

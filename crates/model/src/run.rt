@@ -1,6 +1,5 @@
 // Runs of a trace.
 ghost use mathlib.Core.Path.{_≡_};
-ghost use lib.ListN.{set};
 ghost use lib.Seq.{sets};
 ghost use Rattle.chip.specs.Event.{Sound};
 ghost use Rattle.model.specs.Run.{ran, ranOf, stoppedBy, loopOf, runOf};
@@ -37,15 +36,6 @@ fn stopped(read: Read, model: Model, count: usize, offset: usize) -> Ran
     }
 }
 
-// The answer of an accepted event, while there is room for it.
-pub fn note(answers: &mut [u8], at: usize, answer: u8)
-    ensures { λ r. ⌜ now (answers .exit) ≡ set (now (answers .entry)) at answer ⌝ }
-{
-    if at < answers.len() {
-        answers[at] = answer;
-    }
-}
-
 // A run of a state and a memory that passed.
 fn replay_checked(
     model: Model,
@@ -64,23 +54,39 @@ fn replay_checked(
     let mut at: usize = 0;
     let mut count: usize = 0;
     while count < quota {
-        if trace.len() <= at {
-            return ended(0, state, count, at);
+        let reached = samples::consecutive::samples(
+            part,
+            state,
+            trace,
+            quota,
+            count,
+            at,
+            &mut *memory,
+            &mut *answers,
+        );
+        let here = reached.model;
+        let done = reached.count;
+        let offset = reached.offset;
+        if quota <= done {
+            return ended(0, here, done, offset);
         }
-        let read = trace::read::read_event(part, &trace[at..]);
+        if trace.len() <= offset {
+            return ended(0, here, done, offset);
+        }
+        let read = trace::read::read_event(part, &trace[offset..]);
         let Read::Whole { event, taken } = read else {
-            return stopped(read, state, count, at);
+            return stopped(read, here, done, offset);
         };
-        let past = at + taken;
-        let answered = chip::event::advance(part, state, event, &mut *memory);
+        let past = offset + taken;
+        let answered = chip::event::apart(part, here, event);
         if answered.number != 0 {
-            return ended(answered.number, state, count, at);
+            return ended(answered.number, here, done, offset);
         }
-        note(&mut *answers, count, answered.answer);
+        samples::note::note(&mut *answers, done, answered.answer);
         let next = answered.model;
         state = next;
         at = past;
-        count += 1;
+        count = done + 1;
     }
     ended(0, state, count, at)
 }

@@ -26,9 +26,9 @@ fn write_piece(out: &mut [u8], at: usize, column: usize, answer: u8) -> usize
     ensures { λ r. ⌜ now (out .exit) ≡ sets (now (out .entry)) at (piece column answer) ⌝ }
 {
     let letter = letter_of(answer);
-    model::run::note(&mut *out, at, letter);
+    samples::note::note(&mut *out, at, letter);
     if column == LAST {
-        model::run::note(&mut *out, at + 1, b'\n');
+        samples::note::note(&mut *out, at + 1, b'\n');
         return at + 2;
     }
     at + 1
@@ -50,7 +50,7 @@ fn close_line(out: &mut [u8], at: usize, column: usize) -> usize
     if column == 0 {
         return at;
     }
-    model::run::note(&mut *out, at, b'\n');
+    samples::note::note(&mut *out, at, b'\n');
     at + 1
 }
 

@@ -138,7 +138,7 @@ module _ (p : Part) (fit : Fit p) where
   field-within st (Data a w) n v b h = data-within st a n v b h
   field-within st StatusByte n v b h = tt
 
-  rise-within : (st : Status) (ph : Phase) (b : Bool) → PhaseIn p ph → Within (p .size) (riseWrite p st ph b)
+  pub rise-within : (st : Status) (ph : Phase) (b : Bool) → PhaseIn p ph → Within (p .size) (riseWrite p st ph b)
   rise-within st Rest b h = tt
   rise-within st Deaf b h = tt
   rise-within st (Taking f n v) b h = field-within st f n v b (h .field)

@@ -30,7 +30,7 @@ pub struct Outcome {
 }
 
 // The phase after CS# falls.
-fn select(asleep: bool) -> Phase
+pub fn select(asleep: bool) -> Phase
     ensures { λ r. ⌜ r ≡ selected asleep ⌝ }
 {
     if asleep {

@@ -2,8 +2,8 @@
 use lib.Seq.{set-out}
 use mathlib.Core.Path.{sym, _∙_}
 use borrow.Author.Needs.{needs}
-use Rattle.model.proofs.run.note.Statement.{statement}
-use Rattle.model.proofs.run.note.Tie as tie
+use Rattle.samples.proofs.note.note.Statement.{statement}
+use Rattle.samples.proofs.note.note.Tie as tie
 
 returns-2 : tie.Need-returns-2
 returns-2 c = sym (set-out _ _ _ (c .if1 .left))

@@ -1,0 +1,5 @@
+pub mod LevelLaws
+pub mod SamplesLaws
+pub mod SpiLaws
+pub mod I2cLaws
+pub mod NextLaws

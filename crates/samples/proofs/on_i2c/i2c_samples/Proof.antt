@@ -1,0 +1,261 @@
+-- `i2c_samples` meets its contract. The loop's invariant: the part is the one of the state, memory and answers keep their lengths,
+-- and what is left of the samples, from the parts of the state that the loop keeps, leads to what all of them give. One answer for
+-- each edge. Assumes nothing.
+use mathlib.Core.Path.{_≡_, refl, sym, ap, _∙_}
+use Prim.Native.Nat.{ℕ, _≤_, _-_, _+_}
+use native.Mathlib.Omega.{arith}
+use borrow.Author.Needs.{needs}
+use lib.ListN.{length, drop}
+use Rattle.parts.specs.Table.{partOf}
+use Rattle.parts.proofs.Rows.{part-fits}
+use Rattle.i2c.specs.declared.edge.Edge.the-variants.{Start, Stop, Rise, Fall, Quiet}
+use Rattle.chip.proofs.CheckLaws.{sound-in}
+use Rattle.samples.specs.Samples.{samplesOf}
+use Rattle.samples.proofs.SamplesLaws.{end, three, more, room, Going, stops, goes-on}
+use Rattle.samples.proofs.I2cLaws.{i2cModel, same-model, ready, steps}
+use Rattle.samples.proofs.on_i2c.i2c_samples.Statement.{statement}
+use Rattle.samples.proofs.on_i2c.i2c_samples.Tie as tie
+
+abbrev Inv-loop : tie.InvT-loop
+Inv-loop part model trace quota first start memory₀ answers₀ pins last₀ pulling₀ buffer₀ phase₀ count₀ offset₀ memory answers last pulling buffer phase count offset =
+    (part ≡ partOf (model .part)) × (length memory ≡ length memory₀) × (length answers ≡ length answers₀)
+    × Going trace quota (end first start answers₀ (samplesOf (quota - first) (drop start trace) model memory₀)) (i2cModel model last pulling buffer phase) count offset memory answers
+
+abbrev μ-loop : tie.MeasureT-loop
+μ-loop part model trace quota first start memory₀ answers₀ pins last₀ pulling₀ buffer₀ phase₀ count₀ offset₀ memory answers last pulling buffer phase count offset =
+    quota - count
+
+cast-pins : tie.Need-cast-pins Inv-loop μ-loop
+cast-pins c =
+    let start = c .before .before .before .before in
+    let h = sound-in (start .args .model) (start .args .memory .now) (start .pre .2) in
+    omega (arith, h .model .wired, part-fits (start .args .model .part) (h .model .known) .few)
+
+loop-holds : tie.Need-loop-holds Inv-loop μ-loop
+loop-holds c =
+    let a = c .before .before .before .before .before .before .args in
+    let p = c .before .before .before .before .before .before .pre in
+    let e = same-model (a .model) (a .i2c) (c .before .sample-of .result) (p .1) (c .before .sample-of .ensures) in
+    (p .0, refl, refl, record { within = p .3; sound = rw e (p .2); left = rw e })
+
+next-is-requires : tie.Need-next-is-requires Inv-loop μ-loop
+next-is-requires c κs = c .loop .inv .3 .within
+
+add-sample : tie.Need-add-sample Inv-loop μ-loop
+add-sample c =
+    let next = c in
+    let l = next .before .before .loop in
+    let a = next .before .before .before .before .before .before .before .before .before .args in
+    let h = sym (next .before .next-is .ensures) ∙ next .if1 .taken in
+    omega (arith, room (a .trace .now) 8 (a .quota) (l .count) (l .offset) (i2cModel (a .model) (l .last) (l .pulling) (l .buffer) (l .phase)) (l .memory) (l .answers) (λ u. refl) h, next .before .before .before .before .before .before .before .before .before .good .1 .1 .1 .0 .0)
+
+shared-slice-read-sample : tie.Need-shared-slice-read-sample Inv-loop μ-loop
+shared-slice-read-sample c =
+    let next = c .before in
+    let l = next .before .before .loop in
+    let a = next .before .before .before .before .before .before .before .before .before .args in
+    let h = sym (next .before .next-is .ensures) ∙ next .if1 .taken in
+    omega (arith, room (a .trace .now) 8 (a .quota) (l .count) (l .offset) (i2cModel (a .model) (l .last) (l .pulling) (l .buffer) (l .phase)) (l .memory) (l .answers) (λ u. refl) h)
+
+add-more : tie.Need-add-more Inv-loop μ-loop
+add-more c =
+    let next = c .before .before in
+    let l = next .before .before .loop in
+    let a = next .before .before .before .before .before .before .before .before .before .args in
+    let h = sym (next .before .next-is .ensures) ∙ next .if1 .taken in
+    omega (arith, more (a .trace .now) 8 (a .quota) (l .count) (l .offset) (i2cModel (a .model) (l .last) (l .pulling) (l .buffer) (l .phase)) (l .memory) (l .answers) (λ u. refl) h, next .before .before .before .before .before .before .before .before .before .fits .quota)
+
+add-past : tie.Need-add-past Inv-loop μ-loop
+add-past c =
+    let next = c .before .before in
+    let l = next .before .before .loop in
+    let a = next .before .before .before .before .before .before .before .before .before .args in
+    let h = sym (next .before .next-is .ensures) ∙ next .if1 .taken in
+    omega (arith, room (a .trace .now) 8 (a .quota) (l .count) (l .offset) (i2cModel (a .model) (l .last) (l .pulling) (l .buffer) (l .phase)) (l .memory) (l .answers) (λ u. refl) h, next .before .before .before .before .before .before .before .before .before .good .1 .1 .1 .0 .0)
+
+store-requires : tie.Need-store-requires Inv-loop μ-loop
+store-requires c κs =
+    let turn = c .before .before .before .before .before .before .before .before in
+    let l = turn .before .before .before .before .before .before .loop in
+    let a = turn .before .before .before .before .before .before .before .before .before .before .before .before .before .args in
+    let r = ready (a .model) (l .last) (l .pulling) (l .buffer) (l .phase) (l .memory) (l .inv .3 .sound) in
+    rw (l .inv .0) (r .inside, r .sized)
+
+after-rise-requires : tie.Need-after-rise-requires Inv-loop μ-loop
+after-rise-requires c κs =
+    let turn = c .before .before .before .before .before .before .before .before .before .before .before in
+    let l = turn .before .before .before .before .before .before .loop in
+    let a = turn .before .before .before .before .before .before .before .before .before .before .before .before .before .args in
+    let r = ready (a .model) (l .last) (l .pulling) (l .buffer) (l .phase) (l .memory) (l .inv .3 .sound) in
+    rw (l .inv .0) (r .placed, r .inside)
+
+buffer-after-requires : tie.Need-buffer-after-requires Inv-loop μ-loop
+buffer-after-requires c κs =
+    let turn = c .before .before .before .before .before .before .before .before .before .before .before .before in
+    let l = turn .before .before .before .before .before .before .loop in
+    let a = turn .before .before .before .before .before .before .before .before .before .before .before .before .before .args in
+    let r = ready (a .model) (l .last) (l .pulling) (l .buffer) (l .phase) (l .memory) (l .inv .3 .sound) in
+    rw (l .inv .0) (r .placed .fit, r .inside)
+
+pulls-after-requires : tie.Need-pulls-after-requires Inv-loop μ-loop
+pulls-after-requires c κs =
+    let turn = c .before .before .before in
+    let l = turn .before .before .before .before .before .before .loop in
+    let a = turn .before .before .before .before .before .before .before .before .before .before .before .before .before .args in
+    let r = ready (a .model) (l .last) (l .pulling) (l .buffer) (l .phase) (l .memory) (l .inv .3 .sound) in
+    rw (l .inv .0) (omega (arith, r .placed .wired, r .placed .fit .few), r .sized, r .inside)
+
+loop-less : tie.Need-loop-less Inv-loop μ-loop
+loop-less c =
+    let turn = c .before .before .before .before .before .before .before in
+    let next = turn .before .before .before .before in
+    let l = turn .before .before .before .before .before .before .loop in
+    let a = turn .before .before .before .before .before .before .before .before .before .before .before .before .before .args in
+    let h = sym (next .before .next-is .ensures) ∙ next .if1 .taken in
+    omega (arith, more (a .trace .now) 8 (a .quota) (l .count) (l .offset) (i2cModel (a .model) (l .last) (l .pulling) (l .buffer) (l .phase)) (l .memory) (l .answers) (λ u. refl) h)
+
+loop-again : tie.Need-loop-again Inv-loop μ-loop
+loop-again c =
+    let turn = c .before .before .before .before .before .before .before in
+    let next = turn .before .before .before .before in
+    let l = turn .before .before .before .before .before .before .loop in
+    let a = turn .before .before .before .before .before .before .before .before .before .before .before .before .before .args in
+    let h = sym (next .before .next-is .ensures) ∙ next .if1 .taken in
+    let edge = rw (turn .before .levels-of2 .ensures, turn .before .before .levels-of .ensures) at (sym (turn .edge-of .ensures) ∙ c .before .before .before .before .before .enum-told .given .1) in
+    let g = goes-on (a .trace .now) 8 (a .quota) _ (i2cModel (a .model) (l .last) (l .pulling) (l .buffer) (l .phase)) (l .count) (l .offset) (l .memory) (l .answers) (λ u. refl) (l .inv .3) h _ refl _ (steps (a .model) (l .last) (l .pulling) (l .buffer) (l .phase) (l .memory) _ Start edge) in
+    (l .inv .0, l .inv .1, c .before .before .before .note-pull .kept .0 ∙ l .inv .2, rw (c .taking .ensures, c .before .before .before .note-pull .ensures) g)
+
+loop-less-2 : tie.Need-loop-less-2 Inv-loop μ-loop
+loop-less-2 c =
+    let turn = c .before .before .before .before .before .before in
+    let next = turn .before .before .before .before in
+    let l = turn .before .before .before .before .before .before .loop in
+    let a = turn .before .before .before .before .before .before .before .before .before .before .before .before .before .args in
+    let h = sym (next .before .next-is .ensures) ∙ next .if1 .taken in
+    omega (arith, more (a .trace .now) 8 (a .quota) (l .count) (l .offset) (i2cModel (a .model) (l .last) (l .pulling) (l .buffer) (l .phase)) (l .memory) (l .answers) (λ u. refl) h)
+
+loop-again-2 : tie.Need-loop-again-2 Inv-loop μ-loop
+loop-again-2 c =
+    let turn = c .before .before .before .before .before .before in
+    let next = turn .before .before .before .before in
+    let l = turn .before .before .before .before .before .before .loop in
+    let a = turn .before .before .before .before .before .before .before .before .before .before .before .before .before .args in
+    let h = sym (next .before .next-is .ensures) ∙ next .if1 .taken in
+    let edge = rw (turn .before .levels-of2 .ensures, turn .before .before .levels-of .ensures) at (sym (turn .edge-of .ensures) ∙ c .before .before .before .before .enum-told2 .given .1) in
+    let g = goes-on (a .trace .now) 8 (a .quota) _ (i2cModel (a .model) (l .last) (l .pulling) (l .buffer) (l .phase)) (l .count) (l .offset) (l .memory) (l .answers) (λ u. refl) (l .inv .3) h _ refl _ (steps (a .model) (l .last) (l .pulling) (l .buffer) (l .phase) (l .memory) _ Stop edge) in
+    (l .inv .0, l .inv .1, c .before .before .note-pull2 .kept .0 ∙ l .inv .2, rw (c .before .before .note-pull2 .ensures) g)
+
+loop-less-3 : tie.Need-loop-less-3 Inv-loop μ-loop
+loop-less-3 c =
+    let turn = c .before .before .before .before .before .before .before .before .before .before .before .before .before in
+    let next = turn .before .before .before .before in
+    let l = turn .before .before .before .before .before .before .loop in
+    let a = turn .before .before .before .before .before .before .before .before .before .before .before .before .before .args in
+    let h = sym (next .before .next-is .ensures) ∙ next .if1 .taken in
+    omega (arith, more (a .trace .now) 8 (a .quota) (l .count) (l .offset) (i2cModel (a .model) (l .last) (l .pulling) (l .buffer) (l .phase)) (l .memory) (l .answers) (λ u. refl) h)
+
+loop-again-3 : tie.Need-loop-again-3 Inv-loop μ-loop
+loop-again-3 c =
+    let turn = c .before .before .before .before .before .before .before .before .before .before .before .before .before in
+    let next = turn .before .before .before .before in
+    let l = turn .before .before .before .before .before .before .loop in
+    let a = turn .before .before .before .before .before .before .before .before .before .before .before .before .before .args in
+    let h = sym (next .before .next-is .ensures) ∙ next .if1 .taken in
+    let edge = rw (turn .before .levels-of2 .ensures, turn .before .before .levels-of .ensures) at (sym (turn .edge-of .ensures) ∙ c .before .before .before .before .before .before .before .before .before .before .before .line .given .1) in
+    let g = goes-on (a .trace .now) 8 (a .quota) _ (i2cModel (a .model) (l .last) (l .pulling) (l .buffer) (l .phase)) (l .count) (l .offset) (l .memory) (l .answers) (λ u. refl) (l .inv .3) h _ refl _ (steps (a .model) (l .last) (l .pulling) (l .buffer) (l .phase) (l .memory) _ (Rise _) edge) in
+    (l .inv .0, c .before .before .before .before .store .kept .1 .1 .1 .0 ∙ l .inv .1, c .before .before .before .before .before .before .before .before .note-pull3 .kept .0 ∙ l .inv .2, rw (c .buffer-after .ensures, c .before .after-rise .ensures, c .before .before .before .before .store .ensures, c .before .before .before .before .before .before .before .before .note-pull3 .ensures, turn .before .before .levels-of .ensures, l .inv .0) g)
+
+loop-less-4 : tie.Need-loop-less-4 Inv-loop μ-loop
+loop-less-4 c =
+    let turn = c .before .before .before .before .before .before .before .before in
+    let next = turn .before .before .before .before in
+    let l = turn .before .before .before .before .before .before .loop in
+    let a = turn .before .before .before .before .before .before .before .before .before .before .before .before .before .args in
+    let h = sym (next .before .next-is .ensures) ∙ next .if1 .taken in
+    omega (arith, more (a .trace .now) 8 (a .quota) (l .count) (l .offset) (i2cModel (a .model) (l .last) (l .pulling) (l .buffer) (l .phase)) (l .memory) (l .answers) (λ u. refl) h)
+
+loop-again-4 : tie.Need-loop-again-4 Inv-loop μ-loop
+loop-again-4 c =
+    let turn = c .before .before .before .before .before .before .before .before in
+    let next = turn .before .before .before .before in
+    let l = turn .before .before .before .before .before .before .loop in
+    let a = turn .before .before .before .before .before .before .before .before .before .before .before .before .before .args in
+    let h = sym (next .before .next-is .ensures) ∙ next .if1 .taken in
+    let edge = rw (turn .before .levels-of2 .ensures, turn .before .before .levels-of .ensures) at (sym (turn .edge-of .ensures) ∙ c .before .before .before .before .before .before .enum-told3 .given .1) in
+    let g = goes-on (a .trace .now) 8 (a .quota) _ (i2cModel (a .model) (l .last) (l .pulling) (l .buffer) (l .phase)) (l .count) (l .offset) (l .memory) (l .answers) (λ u. refl) (l .inv .3) h _ refl _ (steps (a .model) (l .last) (l .pulling) (l .buffer) (l .phase) (l .memory) _ Fall edge) in
+    (l .inv .0, l .inv .1, c .before .before .note-pull4 .kept .0 ∙ l .inv .2, rw (c .before .before .note-pull4 .ensures, c .before .before .before .before .pulls-after .ensures, l .inv .0) g)
+
+loop-less-5 : tie.Need-loop-less-5 Inv-loop μ-loop
+loop-less-5 c =
+    let turn = c .before .before .before .before .before .before in
+    let next = turn .before .before .before .before in
+    let l = turn .before .before .before .before .before .before .loop in
+    let a = turn .before .before .before .before .before .before .before .before .before .before .before .before .before .args in
+    let h = sym (next .before .next-is .ensures) ∙ next .if1 .taken in
+    omega (arith, more (a .trace .now) 8 (a .quota) (l .count) (l .offset) (i2cModel (a .model) (l .last) (l .pulling) (l .buffer) (l .phase)) (l .memory) (l .answers) (λ u. refl) h)
+
+loop-again-5 : tie.Need-loop-again-5 Inv-loop μ-loop
+loop-again-5 c =
+    let turn = c .before .before .before .before .before .before in
+    let next = turn .before .before .before .before in
+    let l = turn .before .before .before .before .before .before .loop in
+    let a = turn .before .before .before .before .before .before .before .before .before .before .before .before .before .args in
+    let h = sym (next .before .next-is .ensures) ∙ next .if1 .taken in
+    let edge = rw (turn .before .levels-of2 .ensures, turn .before .before .levels-of .ensures) at (sym (turn .edge-of .ensures) ∙ c .before .before .before .before .enum-told4 .given .1) in
+    let g = goes-on (a .trace .now) 8 (a .quota) _ (i2cModel (a .model) (l .last) (l .pulling) (l .buffer) (l .phase)) (l .count) (l .offset) (l .memory) (l .answers) (λ u. refl) (l .inv .3) h _ refl _ (steps (a .model) (l .last) (l .pulling) (l .buffer) (l .phase) (l .memory) _ Quiet edge) in
+    (l .inv .0, l .inv .1, c .before .before .note-pull5 .kept .0 ∙ l .inv .2, rw (c .before .before .note-pull5 .ensures) g)
+
+returns : tie.Need-returns Inv-loop μ-loop
+returns c =
+    let l = c .before .before .before .before .before .loop in
+    let a = c .before .before .before .before .before .before .before .before .before .before .before .before .args in
+    let e = three _ _ (stops (a .trace .now) 8 (a .quota) _ (i2cModel (a .model) (l .last) (l .pulling) (l .buffer) (l .phase)) (l .count) (l .offset) (l .memory) (l .answers) (λ u. refl) (l .inv .3) (sym (c .before .before .before .before .next-is .ensures) ∙ c .before .before .before .if1 .left)) in
+    (c .reach .ensures ∙ rw (c .before .on-bus .ensures) (e .0), (e .1, e .2))
+
+pub i2c-samples-spec : {M : Type 1} → statement M
+i2c-samples-spec =
+    tie.close
+    (tie.spec
+    Inv-loop
+    μ-loop
+    cast-pins
+    (λ c κs. search needs)
+    loop-holds
+    next-is-requires
+    add-sample
+    shared-slice-read-sample
+    (λ c κs. search needs)
+    add-more
+    add-past
+    (λ c κs. search needs)
+    (λ c κs. search needs)
+    (λ c. search needs)
+    (λ c κs. search needs)
+    (λ c κs. search needs)
+    (λ c. search needs)
+    (λ c κs. search needs)
+    (λ c. search needs)
+    (λ c κs. search needs)
+    store-requires
+    after-rise-requires
+    buffer-after-requires
+    (λ c. search needs)
+    pulls-after-requires
+    (λ c κs. search needs)
+    (λ c. search needs)
+    (λ c κs. search needs)
+    loop-less
+    loop-again
+    loop-less-2
+    loop-again-2
+    loop-less-3
+    loop-again-3
+    loop-less-4
+    loop-again-4
+    loop-less-5
+    loop-again-5
+    (λ c κs. search needs)
+    (λ c κs. search needs)
+    (λ c. search needs)
+    (λ c. search needs)
+    returns)

@@ -1,0 +1,236 @@
+-- `spi_samples` meets its contract. The loop's invariant: the part is the one of the state, memory and answers keep their lengths,
+-- and what is left of the samples, from the parts of the state that the loop keeps, leads to what all of them give. One answer for
+-- each edge. Assumes nothing.
+use mathlib.Core.Path.{_≡_, refl, sym, ap, _∙_}
+use Prim.Native.Nat.{ℕ, _≤_, _-_, _+_}
+use native.Mathlib.Omega.{arith}
+use borrow.Author.Needs.{needs}
+use lib.ListN.{length, drop}
+use Rattle.parts.specs.Table.{partOf}
+use Rattle.spi.specs.declared.edge.Edge.the-variants.{Select, Deselect, Rise, Fall, Quiet}
+use Rattle.samples.specs.Samples.{samplesOf}
+use Rattle.samples.proofs.SamplesLaws.{end, three, more, room, Going, stops, goes-on}
+use Rattle.samples.proofs.SpiLaws.{spiModel, same-model, ready, steps}
+use Rattle.samples.proofs.on_spi.spi_samples.Statement.{statement}
+use Rattle.samples.proofs.on_spi.spi_samples.Tie as tie
+
+abbrev Inv-loop : tie.InvT-loop
+Inv-loop part model trace quota first start memory₀ answers₀ status₀ last₀ asleep₀ shown₀ phase₀ count₀ offset₀ memory answers status last asleep shown phase count offset =
+    (part ≡ partOf (model .part)) × (length memory ≡ length memory₀) × (length answers ≡ length answers₀)
+    × Going trace quota (end first start answers₀ (samplesOf (quota - first) (drop start trace) model memory₀)) (spiModel model status last asleep shown phase) count offset memory answers
+
+abbrev μ-loop : tie.MeasureT-loop
+μ-loop part model trace quota first start memory₀ answers₀ status₀ last₀ asleep₀ shown₀ phase₀ count₀ offset₀ memory answers status last asleep shown phase count offset =
+    quota - count
+
+loop-holds : tie.Need-loop-holds Inv-loop μ-loop
+loop-holds c =
+    let a = c .before .before .before .before .before .args in
+    let p = c .before .before .before .before .before .pre in
+    let e = same-model (a .model) (a .spi) (c .sample-of .result) (p .1) (c .sample-of .ensures) in
+    (p .0, refl, refl, record { within = p .3; sound = rw e (p .2); left = rw e })
+
+next-is-requires : tie.Need-next-is-requires Inv-loop μ-loop
+next-is-requires c κs = c .loop .inv .3 .within
+
+add-sample : tie.Need-add-sample Inv-loop μ-loop
+add-sample c =
+    let next = c in
+    let l = next .before .before .loop in
+    let a = next .before .before .before .before .before .before .before .before .args in
+    let h = sym (next .before .next-is .ensures) ∙ next .if1 .taken in
+    omega (arith, room (a .trace .now) 32 (a .quota) (l .count) (l .offset) (spiModel (a .model) (l .status) (l .last) (l .asleep) (l .shown) (l .phase)) (l .memory) (l .answers) (λ u. refl) h, next .before .before .before .before .before .before .before .before .good .1 .1 .1 .0 .0)
+
+shared-slice-read-sample : tie.Need-shared-slice-read-sample Inv-loop μ-loop
+shared-slice-read-sample c =
+    let next = c .before in
+    let l = next .before .before .loop in
+    let a = next .before .before .before .before .before .before .before .before .args in
+    let h = sym (next .before .next-is .ensures) ∙ next .if1 .taken in
+    omega (arith, room (a .trace .now) 32 (a .quota) (l .count) (l .offset) (spiModel (a .model) (l .status) (l .last) (l .asleep) (l .shown) (l .phase)) (l .memory) (l .answers) (λ u. refl) h)
+
+add-more : tie.Need-add-more Inv-loop μ-loop
+add-more c =
+    let next = c .before .before in
+    let l = next .before .before .loop in
+    let a = next .before .before .before .before .before .before .before .before .args in
+    let h = sym (next .before .next-is .ensures) ∙ next .if1 .taken in
+    omega (arith, more (a .trace .now) 32 (a .quota) (l .count) (l .offset) (spiModel (a .model) (l .status) (l .last) (l .asleep) (l .shown) (l .phase)) (l .memory) (l .answers) (λ u. refl) h, next .before .before .before .before .before .before .before .before .fits .quota)
+
+add-past : tie.Need-add-past Inv-loop μ-loop
+add-past c =
+    let next = c .before .before in
+    let l = next .before .before .loop in
+    let a = next .before .before .before .before .before .before .before .before .args in
+    let h = sym (next .before .next-is .ensures) ∙ next .if1 .taken in
+    omega (arith, room (a .trace .now) 32 (a .quota) (l .count) (l .offset) (spiModel (a .model) (l .status) (l .last) (l .asleep) (l .shown) (l .phase)) (l .memory) (l .answers) (λ u. refl) h, next .before .before .before .before .before .before .before .before .good .1 .1 .1 .0 .0)
+
+rise-requires : tie.Need-rise-requires Inv-loop μ-loop
+rise-requires c κs =
+    let turn = c .before .before .before .before .before .before .before .before in
+    let l = turn .before .before .before .before .before .before .loop in
+    let a = turn .before .before .before .before .before .before .before .before .before .before .before .before .args in
+    let r = ready (a .model) (l .status) (l .last) (l .asleep) (l .shown) (l .phase) (l .memory) (l .inv .3 .sound) in
+    rw (l .inv .0) (r .fit, r .inside, r .sized)
+
+after-fall-requires : tie.Need-after-fall-requires Inv-loop μ-loop
+after-fall-requires c κs =
+    let turn = c .before .before .before in
+    let l = turn .before .before .before .before .before .before .loop in
+    let a = turn .before .before .before .before .before .before .before .before .before .before .before .before .args in
+    let r = ready (a .model) (l .status) (l .last) (l .asleep) (l .shown) (l .phase) (l .memory) (l .inv .3 .sound) in
+    rw (l .inv .0) (r .sized, r .inside)
+
+loop-less : tie.Need-loop-less Inv-loop μ-loop
+loop-less c =
+    let turn = c .before .before .before .before .before .before .before in
+    let next = turn .before .before .before .before in
+    let l = turn .before .before .before .before .before .before .loop in
+    let a = turn .before .before .before .before .before .before .before .before .before .before .before .before .args in
+    let h = sym (next .before .next-is .ensures) ∙ next .if1 .taken in
+    omega (arith, more (a .trace .now) 32 (a .quota) (l .count) (l .offset) (spiModel (a .model) (l .status) (l .last) (l .asleep) (l .shown) (l .phase)) (l .memory) (l .answers) (λ u. refl) h)
+
+loop-again : tie.Need-loop-again Inv-loop μ-loop
+loop-again c =
+    let turn = c .before .before .before .before .before .before .before in
+    let next = turn .before .before .before .before in
+    let l = turn .before .before .before .before .before .before .loop in
+    let a = turn .before .before .before .before .before .before .before .before .before .before .before .before .args in
+    let h = sym (next .before .next-is .ensures) ∙ next .if1 .taken in
+    let edge = rw (turn .before .levels-of2 .ensures, turn .before .before .levels-of .ensures) at (sym (turn .edge-of .ensures) ∙ c .before .before .before .before .before .enum-told .given .1) in
+    let g = goes-on (a .trace .now) 32 (a .quota) _ (spiModel (a .model) (l .status) (l .last) (l .asleep) (l .shown) (l .phase)) (l .count) (l .offset) (l .memory) (l .answers) (λ u. refl) (l .inv .3) h _ refl _ (steps (a .model) (l .status) (l .last) (l .asleep) (l .shown) (l .phase) (l .memory) _ Select edge) in
+    (l .inv .0, l .inv .1, c .before .before .before .note-shown .kept .0 ∙ l .inv .2, rw (c .select .ensures, c .before .before .before .note-shown .ensures, turn .before .before .levels-of .ensures) g)
+
+loop-less-2 : tie.Need-loop-less-2 Inv-loop μ-loop
+loop-less-2 c =
+    let turn = c .before .before .before .before .before .before .before .before in
+    let next = turn .before .before .before .before in
+    let l = turn .before .before .before .before .before .before .loop in
+    let a = turn .before .before .before .before .before .before .before .before .before .before .before .before .args in
+    let h = sym (next .before .next-is .ensures) ∙ next .if1 .taken in
+    omega (arith, more (a .trace .now) 32 (a .quota) (l .count) (l .offset) (spiModel (a .model) (l .status) (l .last) (l .asleep) (l .shown) (l .phase)) (l .memory) (l .answers) (λ u. refl) h)
+
+loop-again-2 : tie.Need-loop-again-2 Inv-loop μ-loop
+loop-again-2 c =
+    let turn = c .before .before .before .before .before .before .before .before in
+    let next = turn .before .before .before .before in
+    let l = turn .before .before .before .before .before .before .loop in
+    let a = turn .before .before .before .before .before .before .before .before .before .before .before .before .args in
+    let h = sym (next .before .next-is .ensures) ∙ next .if1 .taken in
+    let edge = rw (turn .before .levels-of2 .ensures, turn .before .before .levels-of .ensures) at (sym (turn .edge-of .ensures) ∙ c .before .before .before .before .before .before .enum-told2 .given .1) in
+    let g = goes-on (a .trace .now) 32 (a .quota) _ (spiModel (a .model) (l .status) (l .last) (l .asleep) (l .shown) (l .phase)) (l .count) (l .offset) (l .memory) (l .answers) (λ u. refl) (l .inv .3) h _ refl _ (steps (a .model) (l .status) (l .last) (l .asleep) (l .shown) (l .phase) (l .memory) _ Deselect edge) in
+    (l .inv .0, l .inv .1, c .before .before .before .before .note-shown2 .kept .0 ∙ l .inv .2, rw (c .asleep-after .ensures, c .before .status-after .ensures, c .before .before .before .before .note-shown2 .ensures, turn .before .before .levels-of .ensures) g)
+
+loop-less-3 : tie.Need-loop-less-3 Inv-loop μ-loop
+loop-less-3 c =
+    let turn = c .before .before .before .before .before .before .before .before .before .before .before in
+    let next = turn .before .before .before .before in
+    let l = turn .before .before .before .before .before .before .loop in
+    let a = turn .before .before .before .before .before .before .before .before .before .before .before .before .args in
+    let h = sym (next .before .next-is .ensures) ∙ next .if1 .taken in
+    omega (arith, more (a .trace .now) 32 (a .quota) (l .count) (l .offset) (spiModel (a .model) (l .status) (l .last) (l .asleep) (l .shown) (l .phase)) (l .memory) (l .answers) (λ u. refl) h)
+
+loop-again-3 : tie.Need-loop-again-3 Inv-loop μ-loop
+loop-again-3 c =
+    let turn = c .before .before .before .before .before .before .before .before .before .before .before in
+    let next = turn .before .before .before .before in
+    let l = turn .before .before .before .before .before .before .loop in
+    let a = turn .before .before .before .before .before .before .before .before .before .before .before .before .args in
+    let h = sym (next .before .next-is .ensures) ∙ next .if1 .taken in
+    let edge = rw (turn .before .levels-of2 .ensures, turn .before .before .levels-of .ensures) at (sym (turn .edge-of .ensures) ∙ c .before .before .before .before .before .before .before .before .before .si .given .1) in
+    let g = goes-on (a .trace .now) 32 (a .quota) _ (spiModel (a .model) (l .status) (l .last) (l .asleep) (l .shown) (l .phase)) (l .count) (l .offset) (l .memory) (l .answers) (λ u. refl) (l .inv .3) h _ refl _ (steps (a .model) (l .status) (l .last) (l .asleep) (l .shown) (l .phase) (l .memory) _ (Rise _) edge) in
+    (l .inv .0, c .before .before .rise .kept .1 .1 .1 .1 .0 ∙ l .inv .1, c .before .before .before .before .before .before .note-shown3 .kept .0 ∙ l .inv .2, rw (c .before .before .rise .ensures .0, c .before .before .rise .ensures .1, c .before .before .before .before .before .before .note-shown3 .ensures, turn .before .before .levels-of .ensures, l .inv .0) g)
+
+loop-less-4 : tie.Need-loop-less-4 Inv-loop μ-loop
+loop-less-4 c =
+    let turn = c .before .before .before .before .before .before .before .before in
+    let next = turn .before .before .before .before in
+    let l = turn .before .before .before .before .before .before .loop in
+    let a = turn .before .before .before .before .before .before .before .before .before .before .before .before .args in
+    let h = sym (next .before .next-is .ensures) ∙ next .if1 .taken in
+    omega (arith, more (a .trace .now) 32 (a .quota) (l .count) (l .offset) (spiModel (a .model) (l .status) (l .last) (l .asleep) (l .shown) (l .phase)) (l .memory) (l .answers) (λ u. refl) h)
+
+loop-again-4 : tie.Need-loop-again-4 Inv-loop μ-loop
+loop-again-4 c =
+    let turn = c .before .before .before .before .before .before .before .before in
+    let next = turn .before .before .before .before in
+    let l = turn .before .before .before .before .before .before .loop in
+    let a = turn .before .before .before .before .before .before .before .before .before .before .before .before .args in
+    let h = sym (next .before .next-is .ensures) ∙ next .if1 .taken in
+    let edge = rw (turn .before .levels-of2 .ensures, turn .before .before .levels-of .ensures) at (sym (turn .edge-of .ensures) ∙ c .before .before .before .before .before .before .enum-told3 .given .1) in
+    let g = goes-on (a .trace .now) 32 (a .quota) _ (spiModel (a .model) (l .status) (l .last) (l .asleep) (l .shown) (l .phase)) (l .count) (l .offset) (l .memory) (l .answers) (λ u. refl) (l .inv .3) h _ refl _ (steps (a .model) (l .status) (l .last) (l .asleep) (l .shown) (l .phase) (l .memory) _ Fall edge) in
+    (l .inv .0, l .inv .1, c .before .before .note-shown4 .kept .0 ∙ l .inv .2, rw (c .before .before .note-shown4 .ensures, c .before .before .before .before .after-fall .ensures, l .inv .0, turn .before .before .levels-of .ensures) g)
+
+loop-less-5 : tie.Need-loop-less-5 Inv-loop μ-loop
+loop-less-5 c =
+    let turn = c .before .before .before .before .before .before in
+    let next = turn .before .before .before .before in
+    let l = turn .before .before .before .before .before .before .loop in
+    let a = turn .before .before .before .before .before .before .before .before .before .before .before .before .args in
+    let h = sym (next .before .next-is .ensures) ∙ next .if1 .taken in
+    omega (arith, more (a .trace .now) 32 (a .quota) (l .count) (l .offset) (spiModel (a .model) (l .status) (l .last) (l .asleep) (l .shown) (l .phase)) (l .memory) (l .answers) (λ u. refl) h)
+
+loop-again-5 : tie.Need-loop-again-5 Inv-loop μ-loop
+loop-again-5 c =
+    let turn = c .before .before .before .before .before .before in
+    let next = turn .before .before .before .before in
+    let l = turn .before .before .before .before .before .before .loop in
+    let a = turn .before .before .before .before .before .before .before .before .before .before .before .before .args in
+    let h = sym (next .before .next-is .ensures) ∙ next .if1 .taken in
+    let edge = rw (turn .before .levels-of2 .ensures, turn .before .before .levels-of .ensures) at (sym (turn .edge-of .ensures) ∙ c .before .before .before .before .enum-told4 .given .1) in
+    let g = goes-on (a .trace .now) 32 (a .quota) _ (spiModel (a .model) (l .status) (l .last) (l .asleep) (l .shown) (l .phase)) (l .count) (l .offset) (l .memory) (l .answers) (λ u. refl) (l .inv .3) h _ refl _ (steps (a .model) (l .status) (l .last) (l .asleep) (l .shown) (l .phase) (l .memory) _ Quiet edge) in
+    (l .inv .0, l .inv .1, c .before .before .note-shown5 .kept .0 ∙ l .inv .2, rw (c .before .before .note-shown5 .ensures, turn .before .before .levels-of .ensures) g)
+
+returns : tie.Need-returns Inv-loop μ-loop
+returns c =
+    let l = c .before .before .before .before .loop in
+    let a = c .before .before .before .before .before .before .before .before .before .before .args in
+    let e = three _ _ (stops (a .trace .now) 32 (a .quota) _ (spiModel (a .model) (l .status) (l .last) (l .asleep) (l .shown) (l .phase)) (l .count) (l .offset) (l .memory) (l .answers) (λ u. refl) (l .inv .3) (sym (c .before .before .before .next-is .ensures) ∙ c .before .before .if1 .left)) in
+    (c .reach .ensures ∙ rw (c .before .on-bus .ensures) (e .0), (e .1, e .2))
+
+pub spi-samples-spec : {M : Type 1} → statement M
+spi-samples-spec =
+    tie.close
+    (tie.spec
+    Inv-loop
+    μ-loop
+    (λ c κs. search needs)
+    loop-holds
+    next-is-requires
+    add-sample
+    shared-slice-read-sample
+    (λ c κs. search needs)
+    add-more
+    add-past
+    (λ c κs. search needs)
+    (λ c κs. search needs)
+    (λ c. search needs)
+    (λ c κs. search needs)
+    (λ c κs. search needs)
+    (λ c. search needs)
+    (λ c κs. search needs)
+    (λ c κs. search needs)
+    (λ c κs. search needs)
+    (λ c. search needs)
+    (λ c κs. search needs)
+    rise-requires
+    (λ c. search needs)
+    after-fall-requires
+    (λ c κs. search needs)
+    (λ c. search needs)
+    (λ c κs. search needs)
+    loop-less
+    loop-again
+    loop-less-2
+    loop-again-2
+    loop-less-3
+    loop-again-3
+    loop-less-4
+    loop-again-4
+    loop-less-5
+    loop-again-5
+    (λ c κs. search needs)
+    (λ c κs. search needs)
+    (λ c. search needs)
+    (λ c. search needs)
+    returns)

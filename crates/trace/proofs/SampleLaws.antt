@@ -1,0 +1,69 @@
+-- Bytes that begin with a sample in range are read as that sample, and no others are. Assumes nothing.
+use Prim.Native.Nat.{ℕ, _≤_}
+use mathlib.Core.Path.{_≡_, refl, sym, _∙_}
+use mathlib.Core.Bool.{Bool, true, false, cond}
+use mathlib.Core.List.{List}
+use native.Mathlib.Omega.{arith}
+use lib.Dec.{eqb, ltb}
+use lib.ListN.{length, getD}
+use borrow.Author.Tests.{eqb-true, ltb-false, le-ltb}
+use Rattle.parts.specs.declared.part.Part.{Part}
+use Rattle.trace.specs.declared.event.Event.{Event}
+use Rattle.trace.specs.declared.event.Event.the-variants.{SpiPowerOn, I2cPowerOn, PowerOff, Sample, Expected}
+use Rattle.trace.specs.declared.read.Read.the-variants.{Whole}
+use Rattle.trace.specs.Event.{sampleLimit, fieldsIn}
+use Rattle.trace.specs.Read.{startAddress, eventOf, readOf}
+use Rattle.trace.specs.Sample.{sampleFirst}
+use Rattle.trace.proofs.ReadLaws.{passed, reads-whole}
+
+-- the three tests
+tests : (a b c : Bool) → cond a false (cond b c false) ≡ true → (a ≡ false) × ((b ≡ true) × (c ≡ true))
+tests false true true h = (refl, (refl, refl))
+tests true b c h = let z : _≡_ {A = ℕ} 0 1 = cc in absurd (omega arith)
+tests false false c h = let z : _≡_ {A = ℕ} 0 1 = cc in absurd (omega arith)
+tests false true false h = let z : _≡_ {A = ℕ} 0 1 = cc in absurd (omega arith)
+
+pub sample-long : (limit : ℕ) (t : List ℕ) → sampleFirst limit t ≡ true → 2 ≤ length t
+sample-long limit t h = ltb-false (length t) 2 (tests (ltb (length t) 2) (eqb (getD t 0 0) 4) (ltb (getD t 1 0) limit) h .0)
+
+pub sample-read : (p : Part) (t : List ℕ) → sampleFirst (sampleLimit (p .bus)) t ≡ true → readOf p t ≡ Whole (Sample (getD t 1 0)) 2
+sample-read p t h =
+    let s = tests (ltb (length t) 2) (eqb (getD t 0 0) 4) (ltb (getD t 1 0) (sampleLimit (p .bus))) h in
+    let k : getD t 0 0 ≡ 4 = eqb-true (getD t 0 0) 4 (s .1 .0) in
+    let l : 2 ≤ length t = ltb-false (length t) 2 (s .0) in
+    reads-whole p t (Sample (getD t 1 0)) 2
+    (record { some = λ z. omega arith; known = rw k; long = rw k l; inside = rw k (s .1 .1); event = rw k; taken = rw k })
+
+-- an event that is no sample
+abbrev pub NoSample : Event → Type 0
+NoSample (SpiPowerOn x) = Unit {0}
+NoSample (I2cPowerOn x a) = Unit {0}
+NoSample PowerOff = Unit {0}
+NoSample (Sample x) = ⊥
+NoSample (Expected v) = Unit {0}
+
+-- by the tests for the kinds, which choose the event: a sample would be in range
+no-sample-by : (p : Part) (a b c d : Bool) (x y : ℕ) → (d ≡ true → ltb x (sampleLimit (p .bus)) ≡ true → ⊥)
+    → fieldsIn p (cond a (SpiPowerOn x) (cond b (I2cPowerOn x y) (cond c PowerOff (cond d (Sample x) (Expected x))))) ≡ true
+    → NoSample (cond a (SpiPowerOn x) (cond b (I2cPowerOn x y) (cond c PowerOff (cond d (Sample x) (Expected x)))))
+no-sample-by p true b c d x y n f = tt
+no-sample-by p false true c d x y n f = tt
+no-sample-by p false false true d x y n f = tt
+no-sample-by p false false false true x y n f = n refl f
+no-sample-by p false false false false x y n f = tt
+
+pub no-sample : (p : Part) (t : List ℕ) (e : Event) (n : ℕ) → sampleFirst (sampleLimit (p .bus)) t ≡ false → readOf p t ≡ Whole e n → NoSample e
+no-sample p t e n z h =
+    let s = passed p t e n h in
+    let k : ℕ = getD t 0 0 in
+    rw (s .event) at
+    (no-sample-by p (eqb k 1) (eqb k 2) (eqb k 3) (eqb k 4) (getD t 1 0) (startAddress (getD t 2 0) (getD t 3 0) (getD t 4 0)) none (s .inside))
+  where
+    none : eqb (getD t 0 0) 4 ≡ true → ltb (getD t 1 0) (sampleLimit (p .bus)) ≡ true → ⊥
+    none x y =
+        let s = passed p t e n h in
+        let l : 2 ≤ length t = rw (eqb-true (getD t 0 0) 4 x) at (s .long) in
+        let q : sampleFirst (sampleLimit (p .bus)) t ≡ true = rw (le-ltb (length t) 2 l, x, y) in
+        let r : _≡_ {A = Bool} true false = sym q ∙ z in
+        let o : _≡_ {A = ℕ} 0 1 = cc in
+        omega arith
