@@ -17,13 +17,11 @@ use Rattle.parts.specs.Table.{partOf}
 use Rattle.serial.specs.Write.{applied}
 use Rattle.trace.specs.declared.event.Event.{Event}
 use Rattle.trace.specs.declared.event.Event.the-variants.{SpiPowerOn, I2cPowerOn, PowerOff, Sample, Expected}
-use Rattle.spi.specs.declared.sample.Outcome as SpiOutcome
 use Rattle.spi.specs.declared.sample.Spi as SpiState
 use Rattle.spi.specs.Levels as SpiLevels
 use Rattle.spi.specs.Sample as SpiSample
 use Rattle.spi.specs.Show as SpiShow
 use Rattle.i2c.specs.declared.sample.I2c as I2cState
-use Rattle.i2c.specs.declared.sample.Outcome as I2cOutcome
 use Rattle.i2c.specs.Levels as I2cLevels
 use Rattle.i2c.specs.Sample as I2cSample
 use Rattle.chip.specs.declared.check.Verdict.the-variants.{Passed, Failed}
@@ -73,11 +71,11 @@ onUnpowered s (Sample x) = refused R.Unpowered s
 onUnpowered s (Expected v) = refused R.Unpowered s
 
 -- an accepted sample: what the bus rules give
-abbrev pub spiSampled : Model → List ℕ → SpiOutcome.Outcome → Outcome
+abbrev pub spiSampled : Model → List ℕ → SpiSample.Outcome → Outcome
 spiSampled s m o =
     record { result = accepted (o .answer) (modelOf (s .part) (s .pins) (o .status) (SpiOn (o .spi))); memory = applied (o .write) m }
 
-abbrev pub i2cSampled : Model → List ℕ → I2cOutcome.Outcome → Outcome
+abbrev pub i2cSampled : Model → List ℕ → I2cSample.Outcome → Outcome
 i2cSampled s m o =
     record { result = accepted (o .answer) (modelOf (s .part) (s .pins) (s .status) (I2cOn (o .i2c))); memory = applied (o .write) m }
 

@@ -17,7 +17,6 @@ use Rattle.i2c.specs.declared.phase.Field.the-variants.{Word, HighByte, 
 use Rattle.i2c.specs.declared.phase.Phase.{Phase}
 use Rattle.i2c.specs.declared.phase.Phase.the-variants.{Rest, Deaf, Taking, Sending}
 use Rattle.i2c.specs.declared.sample.I2c.{I2c}
-use Rattle.i2c.specs.declared.sample.Outcome.{Outcome}
 use Rattle.i2c.specs.Edge.{edgeOf}
 use Rattle.i2c.specs.Phase.{afterRise}
 use Rattle.i2c.specs.Buffer.{bufferAfter}
@@ -29,6 +28,12 @@ use Rattle.i2c.specs.Ranges.{PhaseIn, Placed}
 abbrev pub answerOf : Bool → Answer
 answerOf true = Low
 answerOf false = HighZ
+
+-- what one sample gives
+pub record Outcome : Type 0 where
+  pub i2c : I2c
+  pub answer : Answer
+  pub write : Write
 
 -- a step to the levels seen, whether the part pulls, an address buffer, a phase, and what is written
 abbrev pub stepTo : Levels → Bool → AddressBuffer → Phase → Write → Outcome

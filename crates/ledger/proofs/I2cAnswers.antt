@@ -14,12 +14,11 @@ use Rattle.i2c.specs.declared.phase.Field.the-variants.{Word}
 use Rattle.i2c.specs.declared.phase.Phase.{Phase}
 use Rattle.i2c.specs.declared.phase.Phase.the-variants.{Rest, Taking}
 use Rattle.i2c.specs.declared.sample.I2c.{I2c}
-use Rattle.i2c.specs.declared.sample.Outcome.{Outcome}
 use Rattle.i2c.specs.Buffer.{bufferAfter}
 use Rattle.i2c.specs.Edge.{edgeOf}
 use Rattle.i2c.specs.Phase.{afterRise}
 use Rattle.i2c.specs.Pull.{pullsAfter}
-use Rattle.i2c.specs.Sample.{answerOf, stepOn, stepOf}
+use Rattle.i2c.specs.Sample.{Outcome, answerOf, stepOn, stepOf}
 use Rattle.ledger.specs.Stores.{stored}
 use Rattle.ledger.specs.I2cLedger.{Clock, Item, idle, span, withClock, noted, Wires, wiresAt, edgeBetween, writes}
 use Rattle.ledger.specs.I2cAnswers.{unusedAt, openBuffer, carried, LastFall, none, fallIn, fallOn, pullsSince, pullAnswer}

@@ -16,9 +16,8 @@ use Rattle.i2c.specs.declared.phase.Field.the-variants.{Word}
 use Rattle.i2c.specs.declared.phase.Phase.{Phase}
 use Rattle.i2c.specs.declared.phase.Phase.the-variants.{Rest, Taking}
 use Rattle.i2c.specs.declared.sample.I2c.{I2c}
-use Rattle.i2c.specs.declared.sample.Outcome.{Outcome}
 use Rattle.i2c.specs.Edge.{lineOf, edgeOn, edgeOf}
-use Rattle.i2c.specs.Sample.{answerOf, stepOn, stepOf}
+use Rattle.i2c.specs.Sample.{Outcome, answerOf, stepOn, stepOf}
 use Rattle.i2c.specs.Buffer.{bufferAfter}
 use Rattle.i2c.specs.Phase.{afterRise}
 use Rattle.i2c.specs.Store.{riseWrite}

@@ -1,4 +1,5 @@
 pub mod EventLaws
+pub mod TakeLaws
 pub mod RunLaws
 pub mod SamplesRun
 pub mod RunRule

@@ -21,7 +21,7 @@ use Rattle.spi.specs.declared.edge.Edge.{Edge}
 use Rattle.spi.specs.declared.edge.Edge.the-variants.{Select, Deselect, Rise, Fall, Quiet}
 use Rattle.spi.specs.declared.levels.Levels.{Levels}
 use Rattle.spi.specs.declared.sample.Spi.{Spi}
-use Rattle.spi.specs.declared.sample.Outcome as SpiOutcome
+use Rattle.spi.specs.Sample as SpiSample
 use Rattle.spi.specs.Edge.{edgeOf}
 use Rattle.spi.specs.Levels.{levelsOf}
 use Rattle.spi.specs.Sample.{stepOn, stepOf}
@@ -112,7 +112,7 @@ module _ (made : Model) (first : List ℕ) where
       sample-next : (v : ℕ) → Next (Sample v) (onSpi part (at (SpiOn x)) x m (Sample v))
       sample-next v =
           let l : Levels = levelsOf v in
-          let o : SpiOutcome.Outcome = stepOf part st x l m in
+          let o : SpiSample.Outcome = stepOf part st x l m in
           let e : Entry = record { event = Sample v; answer = answerNumber (o .answer) } in
           let m′ : List ℕ = applied (o .write) m in
           let g′ : ShowsOn (SpiOn (o .spi)) (o .status) m′ (e ∷ h) =

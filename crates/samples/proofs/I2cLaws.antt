@@ -11,10 +11,10 @@ use Rattle.i2c.specs.declared.buffer.AddressBuffer.{AddressBuffer}
 use Rattle.i2c.specs.declared.edge.Edge.{Edge}
 use Rattle.i2c.specs.declared.edge.Edge.the-variants.{Start, Stop, Rise, Fall, Quiet}
 use Rattle.i2c.specs.declared.phase.Phase.{Phase}
-use Rattle.i2c.specs.declared.sample.Outcome as I2cOutcome
 use Rattle.i2c.specs.declared.sample.I2c.{I2c}
 use Rattle.i2c.specs.Edge.{edgeOf}
 use Rattle.i2c.specs.Levels.{levelsOf}
+use Rattle.i2c.specs.Sample as I2cSample
 use Rattle.i2c.specs.Sample.{stepOn, stepOf, Ready}
 use Rattle.chip.specs.declared.model.BusState.{BusState}
 use Rattle.chip.specs.declared.model.BusState.the-variants.{I2cOn}
@@ -40,7 +40,7 @@ ready s last z b ph m h =
 
 -- what the sample x gives
 module _ (s : Model) (last : ℕ) (z : Bool) (b : AddressBuffer) (ph : Phase) (m : List ℕ) (x : ℕ) where
-  abbrev step : Edge → I2cOutcome.Outcome
+  abbrev step : Edge → I2cSample.Outcome
   step e = stepOn e (partOf (s .part)) (s .pins) (i2cOf (levelsOf last) z b ph) (levelsOf x) m
 
   abbrev pub stepped : Edge → Outcome

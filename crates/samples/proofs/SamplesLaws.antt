@@ -59,11 +59,23 @@ end c o buf r = endOf (reachedBy c o r) (r .memory) (sets buf c (r .answers))
 pub three : (a b : End) → a ≡ b → (a .reached ≡ b .reached) × (a .memory ≡ b .memory) × (a .answers ≡ b .answers)
 three a b e = (ap (λ (f : End). f .reached) e, ap (λ (f : End). f .memory) e, ap (λ (f : End). f .answers) e)
 
--- the two tests before a sample
+-- ---- the two tests before a sample
+
 next-tests : (a b : Bool) → cond a b false ≡ true → (a ≡ true) × (b ≡ true)
 next-tests true true h = (refl, refl)
 next-tests true false h = let z : _≡_ {A = ℕ} 0 1 = cc in absurd (omega arith)
 next-tests false b h = let z : _≡_ {A = ℕ} 0 1 = cc in absurd (omega arith)
+
+module _ (limit q c : ℕ) (u : List ℕ) (h : nextIs limit q c u ≡ true) where
+  pub more : c < q
+  more = ltb-true c q (next-tests (ltb c q) (sampleFirst limit u) h .0)
+
+  first : sampleFirst limit u ≡ true
+  first = next-tests (ltb c q) (sampleFirst limit u) h .1
+
+-- two bytes are left
+pub room : (limit q c o : ℕ) (t : List ℕ) → nextIs limit q c (drop o t) ≡ true → o + 2 ≤ length t
+room limit q c o t h = let l = sample-long limit (drop o t) (first limit q c (drop o t) h) in omega (arith, length-drop o t)
 
 -- what is left of q events at offset o of t, of a bus with this limit of samples
 module _ (t : List ℕ) (limit q c o : ℕ) (s : Model) (m buf : List ℕ) (bus : (u : List ℕ) → sampleNext (s .bus) u ≡ sampleFirst limit u) where
@@ -82,24 +94,14 @@ module _ (t : List ℕ) (limit q c o : ℕ) (s : Model) (m buf : List ℕ) (bus 
       by false e n = let l = ltb-false c q e in let z : q - c ≡ 0 = omega arith in stopped (rw z (samples-zero (drop o t) s m))
 
   -- a sample x is next
-  module _ (h : nextIs limit q c (drop o t) ≡ true) where
-    pub more : c < q
-    more = ltb-true c q (next-tests (ltb c q) (sampleFirst limit (drop o t)) h .0)
-
-    first : sampleFirst limit (drop o t) ≡ true
-    first = next-tests (ltb c q) (sampleFirst limit (drop o t)) h .1
-
-    pub room : o + 2 ≤ length t
-    room = let l = sample-long limit (drop o t) first in omega (arith, length-drop o t)
-
-    pub left-one : (x : ℕ) → getD t (o + 1) 0 ≡ x
-        → end c o buf left
-        ≡ end (c + 1) (o + 2) (set buf c (advanceOf s m (Sample x) .result .answer))
-        (samplesOf (q - (c + 1)) (drop (o + 2) t) (advanceOf s m (Sample x) .result .model) (advanceOf s m (Sample x) .memory))
-    left-one x e =
-        let k : q - c ≡ suc (q - (c + 1)) = let l = more in omega arith in
-        let g : getD (drop o t) 1 0 ≡ x = getD-drop o t 1 0 ∙ e in
-        rw (k, samples-one (drop o t) s m (q - (c + 1)) (bus (drop o t) ∙ first), g, drop-drop, ← add-assoc, ← add-assoc, add-one c)
+  pub left-one : nextIs limit q c (drop o t) ≡ true → (x : ℕ) → getD t (o + 1) 0 ≡ x
+      → end c o buf left
+      ≡ end (c + 1) (o + 2) (set buf c (advanceOf s m (Sample x) .result .answer))
+      (samplesOf (q - (c + 1)) (drop (o + 2) t) (advanceOf s m (Sample x) .result .model) (advanceOf s m (Sample x) .memory))
+  left-one h x e =
+      let k : q - c ≡ suc (q - (c + 1)) = let l = more limit q c (drop o t) h in omega arith in
+      let g : getD (drop o t) 1 0 ≡ x = getD-drop o t 1 0 ∙ e in
+      rw (k, samples-one (drop o t) s m (q - (c + 1)) (bus (drop o t) ∙ first limit q c (drop o t) h), g, drop-drop, ← add-assoc, ← add-assoc, add-one c)
 
 -- ---- from here to the goal
 
@@ -109,8 +111,8 @@ pub record Going (t : List ℕ) (q : ℕ) (goal : End) (s : Model) (c o : ℕ) (
   pub sound : Sound s m
   pub left : end c o buf (samplesOf (q - c) (drop o t) s m) ≡ goal
 
-module _ (t : List ℕ) (limit q : ℕ) (goal : End) (s : Model) (c o : ℕ) (m buf : List ℕ) (bus : (u : List ℕ) → sampleNext (s .bus) u ≡ sampleFirst limit u)
-    (g : Going t q goal s c o m buf) where
+module _ {t : List ℕ} {q : ℕ} {goal : End} {s : Model} {c o : ℕ} {m buf : List ℕ} (g : Going t q goal s c o m buf)
+    (limit : ℕ) (bus : (u : List ℕ) → sampleNext (s .bus) u ≡ sampleFirst limit u) where
   pub stops : nextIs limit q c (drop o t) ≡ false → endOf (reached s c o) m buf ≡ goal
   stops h = sym (left-none t limit q c o s m buf bus h) ∙ g .left
 
@@ -119,7 +121,7 @@ module _ (t : List ℕ) (limit q : ℕ) (goal : End) (s : Model) (c o : ℕ) (m 
       → Going t q goal (r .result .model) (c + 1) (o + 2) (r .memory) (set buf c (r .result .answer))
   goes-on h x read r e =
       record {
-        within = room t limit q c o s m buf bus h;
+        within = room limit q c o t h;
         sound = rw e at (keeps s m (Sample x) (g .sound) tt);
         left = sym (rw e at (left-one t limit q c o s m buf bus h x read)) ∙ g .left;
       }

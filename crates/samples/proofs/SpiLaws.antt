@@ -12,10 +12,10 @@ use Rattle.trace.specs.declared.event.Event.the-variants.{Sample}
 use Rattle.spi.specs.declared.edge.Edge.{Edge}
 use Rattle.spi.specs.declared.edge.Edge.the-variants.{Select, Deselect, Rise, Fall, Quiet}
 use Rattle.spi.specs.declared.phase.Phase.{Phase}
-use Rattle.spi.specs.declared.sample.Outcome as SpiOutcome
 use Rattle.spi.specs.declared.sample.Spi.{Spi}
 use Rattle.spi.specs.Edge.{edgeOf}
 use Rattle.spi.specs.Levels.{levelsOf}
+use Rattle.spi.specs.Sample as SpiSample
 use Rattle.spi.specs.Sample.{stepOn, stepOf, Ready}
 use Rattle.chip.specs.declared.model.BusState.{BusState}
 use Rattle.chip.specs.declared.model.BusState.the-variants.{SpiOn}
@@ -41,7 +41,7 @@ ready s st last z shown ph m h =
 
 -- what the sample x gives
 module _ (s : Model) (st : Status) (last : ℕ) (z : Bool) (shown : Answer) (ph : Phase) (m : List ℕ) (x : ℕ) where
-  abbrev step : Edge → SpiOutcome.Outcome
+  abbrev step : Edge → SpiSample.Outcome
   step e = stepOn e (partOf (s .part)) st (spiOf (levelsOf last) z shown ph) (levelsOf x) m
 
   abbrev pub stepped : Edge → Outcome

@@ -18,7 +18,6 @@ use Rattle.spi.specs.declared.phase.Field.the-variants.{Opcode, ReadAddr
 use Rattle.spi.specs.declared.phase.Phase.{Phase}
 use Rattle.spi.specs.declared.phase.Phase.the-variants.{Rest, Deaf, Taking, Showing, Waiting}
 use Rattle.spi.specs.declared.sample.Spi.{Spi}
-use Rattle.spi.specs.declared.sample.Outcome.{Outcome}
 use Rattle.spi.specs.Edge.{edgeOf}
 use Rattle.spi.specs.Phase.{afterRise}
 use Rattle.spi.specs.Store.{riseWrite}
@@ -30,6 +29,13 @@ use Rattle.spi.specs.Ranges.{PhaseIn}
 abbrev pub selected : Bool → Phase
 selected true = Deaf
 selected false = Taking Opcode 0 0
+
+-- what one sample gives
+pub record Outcome : Type 0 where
+  pub status : Status
+  pub spi : Spi
+  pub answer : Answer
+  pub write : Write
 
 -- a step to a status register, the levels seen, whether the part sleeps, what is shown, a phase, and what is written
 abbrev pub stepTo : Status → Levels → Bool → Answer → Phase → Write → Outcome

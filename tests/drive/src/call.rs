@@ -1,10 +1,12 @@
-//! One call of the proved build and the same run of the twin, compared in all that a host can see.
+//! One call of the proved build and the same run of the twin, compared in all that a host can see,
+//! and its memory with the ledger's.
 
+use crate::tally::events;
 use crate::{Lent, Making, Ran};
 use std::fmt;
 use twin::gen::Case;
 use twin::text::{first_byte, first_memory};
-use twin::{Model, PARTS};
+use twin::{Ledger, Model, PARTS};
 
 /// What is lent to be written is filled with this, so that a byte left as it is can be told.
 const LEFT: u8 = 0xa5;
@@ -36,6 +38,8 @@ pub struct Agreed {
     pub ran: Ran,
     /// Bytes of memory that differ from the first.
     pub changed: u64,
+    /// Bytes stored, where the call has room for all answers, so that the ledger can tell.
+    pub stored: u64,
 }
 
 impl Call {
@@ -79,7 +83,31 @@ impl Call {
         }
         let differs = |&(address, &byte): &(usize, &u8)| byte != first_byte(address);
         let changed = ours.memory.iter().enumerate().filter(differs).count() as u64;
-        Ok(Agreed { ran, changed })
+        let stored = match &ours.answers {
+            Some(answers) if ran.count <= answers.len() as u64 => {
+                self.told(ran.count, answers, &ours.memory)?
+            }
+            _ => 0,
+        };
+        Ok(Agreed {
+            ran,
+            changed,
+            stored,
+        })
+    }
+
+    /// What the ledger of the accepted events says was stored, if it has the same memory.
+    fn told(&self, count: u64, answers: &[u8], memory: &[u8]) -> Result<u64, String> {
+        let Making { part, pins, bits } = self.making;
+        let mut ledger = Ledger::begin(part, pins, bits, &first_memory(self.memory));
+        let accepted = events(&self.trace).take(count as usize);
+        accepted
+            .zip(answers)
+            .for_each(|(event, &answer)| ledger.feed(event, answer));
+        match first_difference("memory byte", memory, ledger.memory()) {
+            Some(difference) => Err(format!("{difference}, says the ledger")),
+            None => Ok(ledger.stored()),
+        }
     }
 
     fn proved(&self) -> Outcome {

@@ -9,8 +9,8 @@ pub struct Tally {
     /// Events in the traces, also those after a refused one, which are not run.
     pub events: u64,
     pub accepted: u64,
-    /// Bytes of memory that differ at the end of their trace.
-    pub changed: u64,
+    /// Accepted events that stored a byte.
+    pub stored: u64,
     /// Traces by the number that ended them; 0 for those that ran to their end.
     pub numbers: [u64; 10],
 }
@@ -20,7 +20,7 @@ impl Tally {
         self.traces += 1;
         self.events += events(trace).count() as u64;
         self.accepted += agreed.ran.count;
-        self.changed += agreed.changed;
+        self.stored += agreed.stored;
         self.numbers[usize::from(agreed.ran.number)] += 1;
     }
 
@@ -28,7 +28,7 @@ impl Tally {
         self.traces += other.traces;
         self.events += other.events;
         self.accepted += other.accepted;
-        self.changed += other.changed;
+        self.stored += other.stored;
         for (sum, more) in self.numbers.iter_mut().zip(other.numbers) {
             *sum += more;
         }
@@ -39,7 +39,7 @@ impl fmt::Display for Tally {
     fn fmt(&self, to: &mut fmt::Formatter<'_>) -> fmt::Result {
         let share = 100.0 * self.accepted as f64 / self.events.max(1) as f64;
         write!(to, "{:>9} {:>12} ", self.traces, self.accepted)?;
-        write!(to, "{share:>6.1}% {:>9}  ", self.changed)?;
+        write!(to, "{share:>6.1}% {:>9}  ", self.stored)?;
         for number in [0, 4, 5, 6, 7, 8, 9] {
             write!(to, " {:>8}", self.numbers[number])?;
         }
@@ -49,7 +49,7 @@ impl fmt::Display for Tally {
 
 /// The heads of the columns.
 pub const HEAD: &str =
-    "   traces     accepted   share   changed   ended by 0        4        5        \
+    "   traces     accepted   share    stored   ended by 0        4        5        \
                         6        7        8        9";
 
 /// The events of a trace, whole or not; an unknown kind is one byte.

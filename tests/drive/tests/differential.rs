@@ -27,7 +27,7 @@ fn structured(part: u32, traces: u64) {
         compare(case, &mut rng, &mut tally);
     }
     assert!(tally.accepted > 300 * traces, "{tally:?}");
-    assert!(2 * tally.changed > traces, "{tally:?}");
+    assert!(2 * tally.stored > traces, "{tally:?}");
     assert!(
         tally.numbers[4..].iter().all(|&ended| ended > 0),
         "{tally:?}"

@@ -32,6 +32,8 @@ pub struct Ledger {
     part: &'static Part,
     pins: u8,
     memory: Vec<u8>,
+    /// Permitted writes so far.
+    stored: u64,
     bits: u8,
     since: Option<Since>,
 }
@@ -47,6 +49,7 @@ impl Ledger {
             part,
             pins: pins as u8,
             memory: memory.to_vec(),
+            stored: 0,
             bits: bits as u8,
             since: None,
         }
@@ -55,6 +58,11 @@ impl Ledger {
     /// The memory, now and after a cut.
     pub fn memory(&self) -> &[u8] {
         &self.memory
+    }
+
+    /// How many bytes were stored, also where they were the same as before.
+    pub fn stored(&self) -> u64 {
+        self.stored
     }
 
     /// The bits as they stand.
@@ -131,8 +139,14 @@ impl Ledger {
         let address = (number(&bits[8..head]) + behind) % self.part.size;
         let byte = number(&bits[bits.len() - 8..]) as u8;
         if address < self.part.protected_from[usize::from(self.bits % 4)] {
-            self.memory[address] = byte;
+            self.store(address, byte);
         }
+    }
+
+    /// A permitted write.
+    fn store(&mut self, address: usize, byte: u8) {
+        self.memory[address] = byte;
+        self.stored += 1;
     }
 
     /// CS# rose: WREN, WRDI and SLEEP are whole after their code, WRSR with a data byte.
@@ -207,7 +221,7 @@ impl Ledger {
         let sent = a16 * 0x10000 + byte(1) * 0x100 + byte(2);
         let address = (sent + bytes - 4) % self.part.size;
         let byte = byte(bytes - 1) as u8;
-        self.memory[address] = byte;
+        self.store(address, byte);
     }
 
     /// The part's write words, by their A16: one for part 3, two for part 4.

@@ -1,8 +1,8 @@
 -- `spi_samples` meets its contract. The loop's invariant: the part is the one of the state, memory and answers keep their lengths,
--- and what is left of the samples, from the parts of the state that the loop keeps, leads to what all of them give. One answer for
--- each edge. Assumes nothing.
-use mathlib.Core.Path.{_≡_, refl, sym, ap, _∙_}
-use Prim.Native.Nat.{ℕ, _≤_, _-_, _+_}
+-- and what is left of the samples, from the parts of the state that the loop keeps, leads to what all of them give. A turn goes on by
+-- its edge. Assumes nothing.
+use mathlib.Core.Path.{_≡_, refl, sym, _∙_}
+use Prim.Native.Nat.{_-_}
 use native.Mathlib.Omega.{arith}
 use borrow.Author.Needs.{needs}
 use lib.ListN.{length, drop}
@@ -25,45 +25,49 @@ abbrev μ-loop : tie.MeasureT-loop
 
 loop-holds : tie.Need-loop-holds Inv-loop μ-loop
 loop-holds c =
-    let a = c .before .before .before .before .before .args in
-    let p = c .before .before .before .before .before .pre in
-    let e = same-model (a .model) (a .spi) (c .sample-of .result) (p .1) (c .sample-of .ensures) in
-    (p .0, refl, refl, record { within = p .3; sound = rw e (p .2); left = rw e })
+    let start = c .before .before .before .before .before in
+    let a = start .args in
+    let e = same-model (a .model) (a .spi) (c .sample-of .result) (start .pre .1) (c .sample-of .ensures) in
+    (start .pre .0, refl, refl, record { within = start .pre .3; sound = rw e (start .pre .2); left = rw e })
 
 next-is-requires : tie.Need-next-is-requires Inv-loop μ-loop
 next-is-requires c κs = c .loop .inv .3 .within
+
+-- ---- the sums and the read of a turn: there is quota for it, and two bytes are left
 
 add-sample : tie.Need-add-sample Inv-loop μ-loop
 add-sample c =
     let next = c in
     let l = next .before .before .loop in
-    let a = next .before .before .before .before .before .before .before .before .args in
+    let start = next .before .before .before .before .before .before .before .before in
     let h = sym (next .before .next-is .ensures) ∙ next .if1 .taken in
-    omega (arith, room (a .trace .now) 32 (a .quota) (l .count) (l .offset) (spiModel (a .model) (l .status) (l .last) (l .asleep) (l .shown) (l .phase)) (l .memory) (l .answers) (λ u. refl) h, next .before .before .before .before .before .before .before .before .good .1 .1 .1 .0 .0)
+    omega (arith, room 32 (start .args .quota) (l .count) (l .offset) (start .args .trace .now) h, start .good .1 .1 .1 .0 .0)
 
 shared-slice-read-sample : tie.Need-shared-slice-read-sample Inv-loop μ-loop
 shared-slice-read-sample c =
     let next = c .before in
     let l = next .before .before .loop in
-    let a = next .before .before .before .before .before .before .before .before .args in
+    let start = next .before .before .before .before .before .before .before .before in
     let h = sym (next .before .next-is .ensures) ∙ next .if1 .taken in
-    omega (arith, room (a .trace .now) 32 (a .quota) (l .count) (l .offset) (spiModel (a .model) (l .status) (l .last) (l .asleep) (l .shown) (l .phase)) (l .memory) (l .answers) (λ u. refl) h)
-
-add-more : tie.Need-add-more Inv-loop μ-loop
-add-more c =
-    let next = c .before .before in
-    let l = next .before .before .loop in
-    let a = next .before .before .before .before .before .before .before .before .args in
-    let h = sym (next .before .next-is .ensures) ∙ next .if1 .taken in
-    omega (arith, more (a .trace .now) 32 (a .quota) (l .count) (l .offset) (spiModel (a .model) (l .status) (l .last) (l .asleep) (l .shown) (l .phase)) (l .memory) (l .answers) (λ u. refl) h, next .before .before .before .before .before .before .before .before .fits .quota)
+    omega (arith, room 32 (start .args .quota) (l .count) (l .offset) (start .args .trace .now) h)
 
 add-past : tie.Need-add-past Inv-loop μ-loop
 add-past c =
     let next = c .before .before in
     let l = next .before .before .loop in
-    let a = next .before .before .before .before .before .before .before .before .args in
+    let start = next .before .before .before .before .before .before .before .before in
     let h = sym (next .before .next-is .ensures) ∙ next .if1 .taken in
-    omega (arith, room (a .trace .now) 32 (a .quota) (l .count) (l .offset) (spiModel (a .model) (l .status) (l .last) (l .asleep) (l .shown) (l .phase)) (l .memory) (l .answers) (λ u. refl) h, next .before .before .before .before .before .before .before .before .good .1 .1 .1 .0 .0)
+    omega (arith, room 32 (start .args .quota) (l .count) (l .offset) (start .args .trace .now) h, start .good .1 .1 .1 .0 .0)
+
+add-more : tie.Need-add-more Inv-loop μ-loop
+add-more c =
+    let next = c .before .before in
+    let l = next .before .before .loop in
+    let start = next .before .before .before .before .before .before .before .before in
+    let h = sym (next .before .next-is .ensures) ∙ next .if1 .taken in
+    omega (arith, more 32 (start .args .quota) (l .count) (drop (l .offset) (start .args .trace .now)) h, start .fits .quota)
+
+-- ---- what the rules ask of the state: it is ready for the next sample
 
 rise-requires : tie.Need-rise-requires Inv-loop μ-loop
 rise-requires c κs =
@@ -81,24 +85,27 @@ after-fall-requires c κs =
     let r = ready (a .model) (l .status) (l .last) (l .asleep) (l .shown) (l .phase) (l .memory) (l .inv .3 .sound) in
     rw (l .inv .0) (r .sized, r .inside)
 
+-- ---- a turn, by its edge
+
 loop-less : tie.Need-loop-less Inv-loop μ-loop
 loop-less c =
     let turn = c .before .before .before .before .before .before .before in
     let next = turn .before .before .before .before in
     let l = turn .before .before .before .before .before .before .loop in
-    let a = turn .before .before .before .before .before .before .before .before .before .before .before .before .args in
+    let start = turn .before .before .before .before .before .before .before .before .before .before .before .before in
     let h = sym (next .before .next-is .ensures) ∙ next .if1 .taken in
-    omega (arith, more (a .trace .now) 32 (a .quota) (l .count) (l .offset) (spiModel (a .model) (l .status) (l .last) (l .asleep) (l .shown) (l .phase)) (l .memory) (l .answers) (λ u. refl) h)
+    omega (arith, more 32 (start .args .quota) (l .count) (drop (l .offset) (start .args .trace .now)) h)
 
 loop-again : tie.Need-loop-again Inv-loop μ-loop
 loop-again c =
     let turn = c .before .before .before .before .before .before .before in
     let next = turn .before .before .before .before in
     let l = turn .before .before .before .before .before .before .loop in
-    let a = turn .before .before .before .before .before .before .before .before .before .before .before .before .args in
+    let start = turn .before .before .before .before .before .before .before .before .before .before .before .before in
     let h = sym (next .before .next-is .ensures) ∙ next .if1 .taken in
-    let edge = rw (turn .before .levels-of2 .ensures, turn .before .before .levels-of .ensures) at (sym (turn .edge-of .ensures) ∙ c .before .before .before .before .before .enum-told .given .1) in
-    let g = goes-on (a .trace .now) 32 (a .quota) _ (spiModel (a .model) (l .status) (l .last) (l .asleep) (l .shown) (l .phase)) (l .count) (l .offset) (l .memory) (l .answers) (λ u. refl) (l .inv .3) h _ refl _ (steps (a .model) (l .status) (l .last) (l .asleep) (l .shown) (l .phase) (l .memory) _ Select edge) in
+    let a = start .args in
+    let e = rw (turn .before .levels-of2 .ensures, turn .before .before .levels-of .ensures) at (sym (turn .edge-of .ensures) ∙ c .before .before .before .before .before .enum-told .given .1) in
+    let g = goes-on (l .inv .3) 32 (λ u. refl) h _ refl _ (steps (a .model) (l .status) (l .last) (l .asleep) (l .shown) (l .phase) (l .memory) _ Select e) in
     (l .inv .0, l .inv .1, c .before .before .before .note-shown .kept .0 ∙ l .inv .2, rw (c .select .ensures, c .before .before .before .note-shown .ensures, turn .before .before .levels-of .ensures) g)
 
 loop-less-2 : tie.Need-loop-less-2 Inv-loop μ-loop
@@ -106,19 +113,20 @@ loop-less-2 c =
     let turn = c .before .before .before .before .before .before .before .before in
     let next = turn .before .before .before .before in
     let l = turn .before .before .before .before .before .before .loop in
-    let a = turn .before .before .before .before .before .before .before .before .before .before .before .before .args in
+    let start = turn .before .before .before .before .before .before .before .before .before .before .before .before in
     let h = sym (next .before .next-is .ensures) ∙ next .if1 .taken in
-    omega (arith, more (a .trace .now) 32 (a .quota) (l .count) (l .offset) (spiModel (a .model) (l .status) (l .last) (l .asleep) (l .shown) (l .phase)) (l .memory) (l .answers) (λ u. refl) h)
+    omega (arith, more 32 (start .args .quota) (l .count) (drop (l .offset) (start .args .trace .now)) h)
 
 loop-again-2 : tie.Need-loop-again-2 Inv-loop μ-loop
 loop-again-2 c =
     let turn = c .before .before .before .before .before .before .before .before in
     let next = turn .before .before .before .before in
     let l = turn .before .before .before .before .before .before .loop in
-    let a = turn .before .before .before .before .before .before .before .before .before .before .before .before .args in
+    let start = turn .before .before .before .before .before .before .before .before .before .before .before .before in
     let h = sym (next .before .next-is .ensures) ∙ next .if1 .taken in
-    let edge = rw (turn .before .levels-of2 .ensures, turn .before .before .levels-of .ensures) at (sym (turn .edge-of .ensures) ∙ c .before .before .before .before .before .before .enum-told2 .given .1) in
-    let g = goes-on (a .trace .now) 32 (a .quota) _ (spiModel (a .model) (l .status) (l .last) (l .asleep) (l .shown) (l .phase)) (l .count) (l .offset) (l .memory) (l .answers) (λ u. refl) (l .inv .3) h _ refl _ (steps (a .model) (l .status) (l .last) (l .asleep) (l .shown) (l .phase) (l .memory) _ Deselect edge) in
+    let a = start .args in
+    let e = rw (turn .before .levels-of2 .ensures, turn .before .before .levels-of .ensures) at (sym (turn .edge-of .ensures) ∙ c .before .before .before .before .before .before .enum-told2 .given .1) in
+    let g = goes-on (l .inv .3) 32 (λ u. refl) h _ refl _ (steps (a .model) (l .status) (l .last) (l .asleep) (l .shown) (l .phase) (l .memory) _ Deselect e) in
     (l .inv .0, l .inv .1, c .before .before .before .before .note-shown2 .kept .0 ∙ l .inv .2, rw (c .asleep-after .ensures, c .before .status-after .ensures, c .before .before .before .before .note-shown2 .ensures, turn .before .before .levels-of .ensures) g)
 
 loop-less-3 : tie.Need-loop-less-3 Inv-loop μ-loop
@@ -126,19 +134,20 @@ loop-less-3 c =
     let turn = c .before .before .before .before .before .before .before .before .before .before .before in
     let next = turn .before .before .before .before in
     let l = turn .before .before .before .before .before .before .loop in
-    let a = turn .before .before .before .before .before .before .before .before .before .before .before .before .args in
+    let start = turn .before .before .before .before .before .before .before .before .before .before .before .before in
     let h = sym (next .before .next-is .ensures) ∙ next .if1 .taken in
-    omega (arith, more (a .trace .now) 32 (a .quota) (l .count) (l .offset) (spiModel (a .model) (l .status) (l .last) (l .asleep) (l .shown) (l .phase)) (l .memory) (l .answers) (λ u. refl) h)
+    omega (arith, more 32 (start .args .quota) (l .count) (drop (l .offset) (start .args .trace .now)) h)
 
 loop-again-3 : tie.Need-loop-again-3 Inv-loop μ-loop
 loop-again-3 c =
     let turn = c .before .before .before .before .before .before .before .before .before .before .before in
     let next = turn .before .before .before .before in
     let l = turn .before .before .before .before .before .before .loop in
-    let a = turn .before .before .before .before .before .before .before .before .before .before .before .before .args in
+    let start = turn .before .before .before .before .before .before .before .before .before .before .before .before in
     let h = sym (next .before .next-is .ensures) ∙ next .if1 .taken in
-    let edge = rw (turn .before .levels-of2 .ensures, turn .before .before .levels-of .ensures) at (sym (turn .edge-of .ensures) ∙ c .before .before .before .before .before .before .before .before .before .si .given .1) in
-    let g = goes-on (a .trace .now) 32 (a .quota) _ (spiModel (a .model) (l .status) (l .last) (l .asleep) (l .shown) (l .phase)) (l .count) (l .offset) (l .memory) (l .answers) (λ u. refl) (l .inv .3) h _ refl _ (steps (a .model) (l .status) (l .last) (l .asleep) (l .shown) (l .phase) (l .memory) _ (Rise _) edge) in
+    let a = start .args in
+    let e = rw (turn .before .levels-of2 .ensures, turn .before .before .levels-of .ensures) at (sym (turn .edge-of .ensures) ∙ c .before .before .before .before .before .before .before .before .before .si .given .1) in
+    let g = goes-on (l .inv .3) 32 (λ u. refl) h _ refl _ (steps (a .model) (l .status) (l .last) (l .asleep) (l .shown) (l .phase) (l .memory) _ (Rise _) e) in
     (l .inv .0, c .before .before .rise .kept .1 .1 .1 .1 .0 ∙ l .inv .1, c .before .before .before .before .before .before .note-shown3 .kept .0 ∙ l .inv .2, rw (c .before .before .rise .ensures .0, c .before .before .rise .ensures .1, c .before .before .before .before .before .before .note-shown3 .ensures, turn .before .before .levels-of .ensures, l .inv .0) g)
 
 loop-less-4 : tie.Need-loop-less-4 Inv-loop μ-loop
@@ -146,19 +155,20 @@ loop-less-4 c =
     let turn = c .before .before .before .before .before .before .before .before in
     let next = turn .before .before .before .before in
     let l = turn .before .before .before .before .before .before .loop in
-    let a = turn .before .before .before .before .before .before .before .before .before .before .before .before .args in
+    let start = turn .before .before .before .before .before .before .before .before .before .before .before .before in
     let h = sym (next .before .next-is .ensures) ∙ next .if1 .taken in
-    omega (arith, more (a .trace .now) 32 (a .quota) (l .count) (l .offset) (spiModel (a .model) (l .status) (l .last) (l .asleep) (l .shown) (l .phase)) (l .memory) (l .answers) (λ u. refl) h)
+    omega (arith, more 32 (start .args .quota) (l .count) (drop (l .offset) (start .args .trace .now)) h)
 
 loop-again-4 : tie.Need-loop-again-4 Inv-loop μ-loop
 loop-again-4 c =
     let turn = c .before .before .before .before .before .before .before .before in
     let next = turn .before .before .before .before in
     let l = turn .before .before .before .before .before .before .loop in
-    let a = turn .before .before .before .before .before .before .before .before .before .before .before .before .args in
+    let start = turn .before .before .before .before .before .before .before .before .before .before .before .before in
     let h = sym (next .before .next-is .ensures) ∙ next .if1 .taken in
-    let edge = rw (turn .before .levels-of2 .ensures, turn .before .before .levels-of .ensures) at (sym (turn .edge-of .ensures) ∙ c .before .before .before .before .before .before .enum-told3 .given .1) in
-    let g = goes-on (a .trace .now) 32 (a .quota) _ (spiModel (a .model) (l .status) (l .last) (l .asleep) (l .shown) (l .phase)) (l .count) (l .offset) (l .memory) (l .answers) (λ u. refl) (l .inv .3) h _ refl _ (steps (a .model) (l .status) (l .last) (l .asleep) (l .shown) (l .phase) (l .memory) _ Fall edge) in
+    let a = start .args in
+    let e = rw (turn .before .levels-of2 .ensures, turn .before .before .levels-of .ensures) at (sym (turn .edge-of .ensures) ∙ c .before .before .before .before .before .before .enum-told3 .given .1) in
+    let g = goes-on (l .inv .3) 32 (λ u. refl) h _ refl _ (steps (a .model) (l .status) (l .last) (l .asleep) (l .shown) (l .phase) (l .memory) _ Fall e) in
     (l .inv .0, l .inv .1, c .before .before .note-shown4 .kept .0 ∙ l .inv .2, rw (c .before .before .note-shown4 .ensures, c .before .before .before .before .after-fall .ensures, l .inv .0, turn .before .before .levels-of .ensures) g)
 
 loop-less-5 : tie.Need-loop-less-5 Inv-loop μ-loop
@@ -166,26 +176,28 @@ loop-less-5 c =
     let turn = c .before .before .before .before .before .before in
     let next = turn .before .before .before .before in
     let l = turn .before .before .before .before .before .before .loop in
-    let a = turn .before .before .before .before .before .before .before .before .before .before .before .before .args in
+    let start = turn .before .before .before .before .before .before .before .before .before .before .before .before in
     let h = sym (next .before .next-is .ensures) ∙ next .if1 .taken in
-    omega (arith, more (a .trace .now) 32 (a .quota) (l .count) (l .offset) (spiModel (a .model) (l .status) (l .last) (l .asleep) (l .shown) (l .phase)) (l .memory) (l .answers) (λ u. refl) h)
+    omega (arith, more 32 (start .args .quota) (l .count) (drop (l .offset) (start .args .trace .now)) h)
 
 loop-again-5 : tie.Need-loop-again-5 Inv-loop μ-loop
 loop-again-5 c =
     let turn = c .before .before .before .before .before .before in
     let next = turn .before .before .before .before in
     let l = turn .before .before .before .before .before .before .loop in
-    let a = turn .before .before .before .before .before .before .before .before .before .before .before .before .args in
+    let start = turn .before .before .before .before .before .before .before .before .before .before .before .before in
     let h = sym (next .before .next-is .ensures) ∙ next .if1 .taken in
-    let edge = rw (turn .before .levels-of2 .ensures, turn .before .before .levels-of .ensures) at (sym (turn .edge-of .ensures) ∙ c .before .before .before .before .enum-told4 .given .1) in
-    let g = goes-on (a .trace .now) 32 (a .quota) _ (spiModel (a .model) (l .status) (l .last) (l .asleep) (l .shown) (l .phase)) (l .count) (l .offset) (l .memory) (l .answers) (λ u. refl) (l .inv .3) h _ refl _ (steps (a .model) (l .status) (l .last) (l .asleep) (l .shown) (l .phase) (l .memory) _ Quiet edge) in
+    let a = start .args in
+    let e = rw (turn .before .levels-of2 .ensures, turn .before .before .levels-of .ensures) at (sym (turn .edge-of .ensures) ∙ c .before .before .before .before .enum-told4 .given .1) in
+    let g = goes-on (l .inv .3) 32 (λ u. refl) h _ refl _ (steps (a .model) (l .status) (l .last) (l .asleep) (l .shown) (l .phase) (l .memory) _ Quiet e) in
     (l .inv .0, l .inv .1, c .before .before .note-shown5 .kept .0 ∙ l .inv .2, rw (c .before .before .note-shown5 .ensures, turn .before .before .levels-of .ensures) g)
+
+-- ---- at the end nothing is left
 
 returns : tie.Need-returns Inv-loop μ-loop
 returns c =
     let l = c .before .before .before .before .loop in
-    let a = c .before .before .before .before .before .before .before .before .before .before .args in
-    let e = three _ _ (stops (a .trace .now) 32 (a .quota) _ (spiModel (a .model) (l .status) (l .last) (l .asleep) (l .shown) (l .phase)) (l .count) (l .offset) (l .memory) (l .answers) (λ u. refl) (l .inv .3) (sym (c .before .before .before .next-is .ensures) ∙ c .before .before .if1 .left)) in
+    let e = three _ _ (stops (l .inv .3) 32 (λ u. refl) (sym (c .before .before .before .next-is .ensures) ∙ c .before .before .if1 .left)) in
     (c .reach .ensures ∙ rw (c .before .on-bus .ensures) (e .0), (e .1, e .2))
 
 pub spi-samples-spec : {M : Type 1} → statement M
