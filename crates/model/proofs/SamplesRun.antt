@@ -1,5 +1,5 @@
--- Consecutive samples are events of a run: a run is these samples, and then the run of what is left. By induction on the quota.
--- Assumes nothing.
+-- Consecutive samples and expected answers are events of a run: a run is these, and then the run of what is left. By induction on
+-- the quota. Assumes nothing.
 use Prim.Native.Nat.{ℕ, zero, suc, _+_, _-_, _<_, _≤_}
 use mathlib.Core.Path.{_≡_, refl, sym, ap, _∙_}
 use mathlib.Core.Bool.{Bool, true, false}
@@ -11,9 +11,9 @@ use lib.Seq.{drop-drop, sets}
 use Rattle.parts.specs.declared.part.Part.{Part}
 use Rattle.parts.specs.Table.{partOf}
 use Rattle.trace.specs.declared.event.Event.{Event}
-use Rattle.trace.specs.declared.event.Event.the-variants.{Sample}
 use Rattle.trace.specs.declared.read.Read.the-variants.{Whole}
 use Rattle.trace.specs.Read.{readOf}
+use Rattle.trace.specs.Sample.{firstEvent}
 use Rattle.trace.proofs.ReadLaws.{taken-within}
 use Rattle.chip.specs.declared.event.Answered.{Answered}
 use Rattle.chip.specs.declared.model.Model.{Model}
@@ -22,7 +22,7 @@ use Rattle.chip.specs.Event.{Sound, advanceOf}
 use Rattle.chip.proofs.ApartLaws.{apart-advance}
 use Rattle.chip.proofs.Stays.{stays}
 use Rattle.samples.specs.declared.reached.Reached.{Reached}
-use Rattle.samples.specs.Samples.{Samples, none, one, sampleNext, sampled, samplesOf, reachedBy}
+use Rattle.samples.specs.Samples.{Samples, none, one, staysOn, firstDone, samplesOf, reachedBy}
 use Rattle.samples.proofs.NextLaws.{next-read, next-apart, next-accepted}
 use Rattle.samples.proofs.SamplesLaws.{samples-zero, samples-none, samples-one}
 use Rattle.model.specs.Event.{eventOf}
@@ -55,9 +55,9 @@ pub record Front (q : ℕ) (t : List ℕ) (s : Model) (m : List ℕ) (r : Sample
   pub quota : r .count ≤ q
   pub within : r .offset ≤ length t
   pub counted : length (r .answers) ≡ r .count
-  pub over : r .count < q → sampleNext (r .model .bus) (drop (r .offset) t) ≡ false
+  pub over : r .count < q → staysOn (r .model .bus) (drop (r .offset) t) ≡ false
 
-front-none : (q : ℕ) (t : List ℕ) (s : Model) (m : List ℕ) → Sound s m → (0 < q → sampleNext (s .bus) t ≡ false) → Front q t s m (none s m)
+front-none : (q : ℕ) (t : List ℕ) (s : Model) (m : List ℕ) → Sound s m → (0 < q → staysOn (s .bus) t ≡ false) → Front q t s m (none s m)
 front-none q t s m h n =
     record {
       run = rw (sub-zero q, zero-add (loopOf q t s m .count), zero-add (loopOf q t s m .offset));
@@ -72,25 +72,25 @@ front-none q t s m h n =
 before-one : (a : ℕ) (r : Samples) (u : Run) → after a 2 (before r u) ≡ before (one a r) u
 before-one a r u = rw (add-assoc 1 (r .count) (u .count), add-assoc 2 (r .offset) (u .offset))
 
-module _ (q : ℕ) (t : List ℕ) (s : Model) (m : List ℕ) (sound : Sound s m) (next : sampleNext (s .bus) t ≡ true) where
-  step : loopOf (suc q) t s m ≡ after (sampled s m t .result .answer) 2 (loopOf q (drop 2 t) (sampled s m t .result .model) (sampled s m t .memory))
+module _ (q : ℕ) (t : List ℕ) (s : Model) (m : List ℕ) (sound : Sound s m) (next : staysOn (s .bus) t ≡ true) where
+  step : loopOf (suc q) t s m ≡ after (firstDone s m t .result .answer) 2 (loopOf q (drop 2 t) (firstDone s m t .result .model) (firstDone s m t .memory))
   step =
       let h = next-read s m sound t next in
-      let w = event-whole s m t sound (Sample (getD t 1 0)) 2 h in
-      let k = event-taken s m t sound (Sample (getD t 1 0)) 2 h in
+      let w = event-whole s m t sound (firstEvent t) 2 h in
+      let k = event-taken s m t sound (firstEvent t) 2 h in
       let l = taken-within _ t _ 2 h in
       rw (w, k) at (loop-accepted t s m q (λ z. omega arith) (rw w (next-accepted s m sound t next)))
 
-  pub sampled-sound : Sound (sampled s m t .result .model) (sampled s m t .memory)
-  sampled-sound = event-keeps s m t sound (Sample (getD t 1 0)) 2 (next-read s m sound t next)
+  pub first-sound : Sound (firstDone s m t .result .model) (firstDone s m t .memory)
+  first-sound = event-keeps s m t sound (firstEvent t) 2 (next-read s m sound t next)
 
-  front-one : (r : Samples) → Front q (drop 2 t) (sampled s m t .result .model) (sampled s m t .memory) r → Front (suc q) t s m (one (sampled s m t .result .answer) r)
+  front-one : (r : Samples) → Front q (drop 2 t) (firstDone s m t .result .model) (firstDone s m t .memory) r → Front (suc q) t s m (one (firstDone s m t .result .answer) r)
   front-one r f =
       let l = taken-within _ t _ 2 (next-read s m sound t next) in
       record {
-        run = step ∙ rw (f .run, drop-drop, sub-suc) (before-one (sampled s m t .result .answer) r _);
+        run = step ∙ rw (f .run, drop-drop, sub-suc) (before-one (firstDone s m t .result .answer) r _);
         sound = f .sound;
-        part = f .part ∙ stays s m (Sample (getD t 1 0)) .part-stays;
+        part = f .part ∙ stays s m (firstEvent t) .part-stays;
         quota = omega (arith, f .quota);
         within = omega (arith, f .within, length-drop 2 t, l);
         counted = omega (arith, f .counted);
@@ -102,24 +102,24 @@ module _ (q : ℕ) (t : List ℕ) (s : Model) (m : List ℕ) (sound : Sound s m)
 
 pub front : (q : ℕ) (t : List ℕ) (s : Model) (m : List ℕ) → Sound s m → Front q t s m (samplesOf q t s m)
 front zero t s m h = rw (samples-zero t s m) (front-none zero t s m h (λ z. absurd (omega arith)))
-front (suc q) t s m h = by (sampleNext (s .bus) t) refl (front q (drop 2 t) (sampled s m t .result .model) (sampled s m t .memory))
+front (suc q) t s m h = by (staysOn (s .bus) t) refl (front q (drop 2 t) (firstDone s m t .result .model) (firstDone s m t .memory))
   where
-    by : (y : Bool) → sampleNext (s .bus) t ≡ y
-        → (Sound (sampled s m t .result .model) (sampled s m t .memory) → Front q (drop 2 t) (sampled s m t .result .model) (sampled s m t .memory) (samplesOf q (drop 2 t) (sampled s m t .result .model) (sampled s m t .memory)))
+    by : (y : Bool) → staysOn (s .bus) t ≡ y
+        → (Sound (firstDone s m t .result .model) (firstDone s m t .memory) → Front q (drop 2 t) (firstDone s m t .result .model) (firstDone s m t .memory) (samplesOf q (drop 2 t) (firstDone s m t .result .model) (firstDone s m t .memory)))
         → Front (suc q) t s m (samplesOf (suc q) t s m)
-    by true e ih = rw (samples-one t s m q e) (front-one q t s m h e _ (ih (sampled-sound q t s m h e)))
+    by true e ih = rw (samples-one t s m q e) (front-one q t s m h e _ (ih (first-sound q t s m h e)))
     by false e ih = rw (samples-none t s m (suc q) e) (front-none (suc q) t s m h (λ z. e))
 
 -- ---- a run that has got so far takes the samples at hand
 
--- where it is then: what is left leads to the goal, and no sample is next
+-- where it is then: what is left leads to the goal, and another event is next
 pub record Here (p : Part) (t : List ℕ) (q : ℕ) (goal : Final) (c : ℕ) (r : Reached) (m buf : List ℕ) : Type 0 where
   pub sound : Sound (r .model) m
   pub part : p ≡ partOf (r .model .part)
   pub onward : c ≤ r .count
   pub quota : r .count ≤ q
   pub within : r .offset ≤ length t
-  pub over : r .count < q → sampleNext (r .model .bus) (drop (r .offset) t) ≡ false
+  pub over : r .count < q → staysOn (r .model .bus) (drop (r .offset) t) ≡ false
   pub left : final (r .count) (r .offset) buf (loopOf (q - r .count) (drop (r .offset) t) (r .model) m) ≡ goal
 
 module _ (p : Part) (t : List ℕ) (q c o : ℕ) (s : Model) (m buf : List ℕ) (goal : Final) (sound : Sound s m) (part : p ≡ partOf (s .part))
@@ -149,8 +149,8 @@ module _ (p : Part) (t : List ℕ) (q c o : ℕ) (s : Model) (m buf : List ℕ) 
         left = onward-left;
       })
 
--- an event there is none under power, and leaves the memory
-pub here-apart : (p : Part) (s : Model) (m t : List ℕ) (e : Event) (n : ℕ) → p ≡ partOf (s .part) → Sound s m → sampleNext (s .bus) t ≡ false
+-- an event there is no sample under power, and leaves the memory
+pub here-apart : (p : Part) (s : Model) (m t : List ℕ) (e : Event) (n : ℕ) → p ≡ partOf (s .part) → Sound s m → staysOn (s .bus) t ≡ false
     → readOf (partOf (s .part)) t ≡ Whole e n → (a : Answered) → a ≡ apartOf p s e → (a ≡ advanceOf s m e .result) × (m ≡ advanceOf s m e .memory)
 here-apart p s m t e n k sound over read a x =
     let h = apart-advance s m e (next-apart s m sound t e n over read) in

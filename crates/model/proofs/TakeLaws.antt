@@ -1,4 +1,5 @@
--- One event that was read, by the samples at the front of its bytes, of which at most one is taken. Assumes nothing.
+-- One event that was read, by the samples and expected answers at the front of its bytes, of which at most one is taken. Assumes
+-- nothing.
 use Prim.Native.Nat.{ℕ, _+_, _<_}
 use mathlib.Core.Path.{_≡_, refl, sym, ap, _∙_}
 use mathlib.Core.Bool.{Bool, true, false}
@@ -10,7 +11,6 @@ use lib.Seq.{sets, getD-set-same}
 use Rattle.parts.specs.declared.part.Part.{Part}
 use Rattle.parts.specs.Table.{partOf}
 use Rattle.trace.specs.declared.event.Event.{Event}
-use Rattle.trace.specs.declared.event.Event.the-variants.{Sample}
 use Rattle.trace.specs.declared.read.Read.{Read}
 use Rattle.trace.specs.declared.read.Read.the-variants.{Whole}
 use Rattle.trace.specs.Read.{readOf}
@@ -20,7 +20,7 @@ use Rattle.chip.specs.Apart.{apartOf}
 use Rattle.chip.specs.Event.{Outcome, Sound, keeping, advanceOf}
 use Rattle.chip.proofs.ApartLaws.{apart-advance}
 use Rattle.samples.specs.declared.reached.Reached.{Reached}
-use Rattle.samples.specs.Samples.{Samples, none, one, sampleNext, sampled, samplesOf, reachedBy}
+use Rattle.samples.specs.Samples.{Samples, none, one, staysOn, firstDone, samplesOf, reachedBy}
 use Rattle.samples.proofs.NextLaws.{next-read, next-apart, next-accepted}
 use Rattle.samples.proofs.SamplesLaws.{samples-zero, samples-none, samples-one}
 
@@ -40,26 +40,26 @@ module _ (p : Part) (s : Model) (m t : List ℕ) (e : Event) (n : ℕ) (part : p
         → (_≡_ {A = Answered} (record { number = 0; answer = getD (sets buf 0 (r .answers)) 0 0; model = r .model }) (advanceOf s m e .result))
         × (r .memory ≡ advanceOf s m e .memory)
 
-  took-none : sampleNext (s .bus) t ≡ false → Took (none s m)
+  took-none : staysOn (s .bus) t ≡ false → Took (none s m)
   took-none k =
       let h = apart-advance s m e (next-apart s m sound t e n k (rw part at read)) in
       record { other = λ z. (rw (part, h), rw h); sample = λ z. absurd (z refl) }
 
-  took-one : sampleNext (s .bus) t ≡ true → Took (one (sampled s m t .result .answer) (none (sampled s m t .result .model) (sampled s m t .memory)))
+  took-one : staysOn (s .bus) t ≡ true → Took (one (firstDone s m t .result .answer) (none (firstDone s m t .result .model) (firstDone s m t .memory)))
   took-one k =
       let w = whole-event _ _ _ _ (sym (next-read s m sound t k) ∙ rw part at read) in
       let a = next-accepted s m sound t k in
       record {
         other = λ z. absurd (omega arith);
-        sample = λ z buf room. (rw (← w, getD-set-same buf 0 (sampled s m t .result .answer) 0 room) (accepted-parts (sampled s m t .result) a), rw (← w));
+        sample = λ z buf room. (rw (← w, getD-set-same buf 0 (firstDone s m t .result .answer) 0 room) (accepted-parts (firstDone s m t .result) a), rw (← w));
       }
 
   pub took : Took (samplesOf 1 t s m)
-  took = by (sampleNext (s .bus) t) refl
+  took = by (staysOn (s .bus) t) refl
     where
-      by : (y : Bool) → sampleNext (s .bus) t ≡ y → Took (samplesOf 1 t s m)
+      by : (y : Bool) → staysOn (s .bus) t ≡ y → Took (samplesOf 1 t s m)
       by false k = rw (samples-none t s m 1 k) (took-none k)
-      by true k = rw (samples-one t s m 0 k, samples-zero (drop 2 t) (sampled s m t .result .model) (sampled s m t .memory)) (took-one k)
+      by true k = rw (samples-one t s m 0 k, samples-zero (drop 2 t) (firstDone s m t .result .model) (firstDone s m t .memory)) (took-one k)
 
   -- the same of what a call with quota 1 gives back
   module _ (r : Reached) (w : List ℕ) (x : r ≡ reachedBy 0 0 (samplesOf 1 t s m)) (y : w ≡ samplesOf 1 t s m .memory) where

@@ -1,28 +1,38 @@
 -- One sample of an I2C part, from the parts of the state that the loop keeps to those parts after it, edge by edge. Assumes
 -- nothing.
 use Prim.Native.Nat.{ℕ}
-use mathlib.Core.Path.{_≡_, refl, sym, ap}
-use mathlib.Core.Bool.{Bool}
+use mathlib.Core.Path.{_≡_, refl, sym, ap, _∙_}
+use mathlib.Core.Bool.{Bool, true, false}
 use mathlib.Core.List.{List}
+use mathlib.Core.Logic.{_⊎_, ⊎-elim}
+use native.Mathlib.Omega.{arith}
+use lib.Dec.{eqb}
+use lib.ListN.{getD}
+use borrow.Author.Tests.{eq-eqb}
+use Rattle.parts.specs.Numbers.{answerNumber}
 use Rattle.parts.specs.Table.{partOf}
 use Rattle.serial.specs.Write.{applied}
-use Rattle.trace.specs.declared.event.Event.the-variants.{Sample}
+use Rattle.trace.specs.declared.event.Event.{Event}
+use Rattle.trace.specs.declared.event.Event.the-variants.{Sample, Expected}
+use Rattle.trace.specs.Sample.{staysFirst}
+use Rattle.trace.proofs.SampleLaws.{stays-which}
 use Rattle.i2c.specs.declared.buffer.AddressBuffer.{AddressBuffer}
 use Rattle.i2c.specs.declared.edge.Edge.{Edge}
 use Rattle.i2c.specs.declared.edge.Edge.the-variants.{Start, Stop, Rise, Fall, Quiet}
+use Rattle.i2c.specs.declared.levels.Levels.{Levels}
 use Rattle.i2c.specs.declared.phase.Phase.{Phase}
 use Rattle.i2c.specs.declared.sample.I2c.{I2c}
-use Rattle.i2c.specs.Edge.{edgeOf}
+use Rattle.i2c.specs.Edge.{lineOf, edgeOn, edgeOf}
 use Rattle.i2c.specs.Levels.{levelsOf}
 use Rattle.i2c.specs.Sample as I2cSample
-use Rattle.i2c.specs.Sample.{stepOn, stepOf, Ready}
+use Rattle.i2c.specs.Sample.{answerOf, stepOn, stepOf, Ready}
 use Rattle.chip.specs.declared.model.BusState.{BusState}
 use Rattle.chip.specs.declared.model.BusState.the-variants.{I2cOn}
 use Rattle.chip.specs.declared.model.Model.{Model}
 use Rattle.chip.specs.Event.{Outcome, Sound, accepted, i2cSampled, advanceOf}
 use Rattle.chip.specs.Model.{modelOf}
 use Rattle.chip.proofs.CheckLaws.{sound-in, i2c-ready}
-use Rattle.samples.specs.Samples.{i2cOf}
+use Rattle.samples.specs.Samples.{firstDone, firstSample, i2cOf}
 
 -- the state of the part s with these levels, pull, buffer and phase
 abbrev pub i2cModel : Model → ℕ → Bool → AddressBuffer → Phase → Model
@@ -37,6 +47,15 @@ pub ready : (s : Model) (last : ℕ) (z : Bool) (b : AddressBuffer) (ph : Phase)
     → Ready (partOf (s .part)) (s .pins) (i2cOf (levelsOf last) z b ph) m
 ready s last z b ph m h =
     i2c-ready (i2cModel s last z b ph) (i2cOf (levelsOf last) z b ph) m refl (sound-in (i2cModel s last z b ph) m h)
+
+-- nothing happens between two samples with the same levels
+same-levels : (z : Bool) (l : Levels) → edgeOf z l l ≡ Quiet
+same-levels z l = by (l .scl) (lineOf (l .sda) z)
+  where
+    by : (c k : Bool) → edgeOn c c k k ≡ Quiet
+    by true true = refl
+    by true false = refl
+    by false k = refl
 
 -- what the sample x gives
 module _ (s : Model) (last : ℕ) (z : Bool) (b : AddressBuffer) (ph : Phase) (m : List ℕ) (x : ℕ) where
@@ -60,3 +79,23 @@ module _ (s : Model) (last : ℕ) (z : Bool) (b : AddressBuffer) (ph : Phase) (m
   pub steps : (e : Edge) → edgeOf z (levelsOf last) (levelsOf x) ≡ e → advanceOf (i2cModel s last z b ph) m (Sample x) ≡ stepped e
   unfolding advanceOf stepOf
   steps e k = rw k (by-edge e)
+
+-- an expected answer that holds is like a sample with the same levels
+module _ (s : Model) (last : ℕ) (z : Bool) (b : AddressBuffer) (ph : Phase) (m : List ℕ) where
+  held : advanceOf (i2cModel s last z b ph) m (Expected (answerNumber (answerOf z))) ≡ stepped s last z b ph m last Quiet
+  unfolding advanceOf
+  held = rw (eq-eqb (answerNumber (answerOf z)) (answerNumber (answerOf z)) refl)
+
+  -- what the event at the front of u gives
+  pub first-steps : (u : List ℕ) → staysFirst 8 (answerNumber (answerOf z)) u ≡ true → (e : Edge) → edgeOf z (levelsOf last) (levelsOf (firstSample last u)) ≡ e
+      → firstDone (i2cModel s last z b ph) m u ≡ stepped s last z b ph m (firstSample last u) e
+  first-steps u h e k = by (eqb (getD u 0 0) 4) refl
+    where
+      by : (y : Bool) → eqb (getD u 0 0) 4 ≡ y → firstDone (i2cModel s last z b ph) m u ≡ stepped s last z b ph m (firstSample last u) e
+      by true q = rw q (steps s last z b ph m (getD u 1 0) e (rw q at k))
+      by false q =
+          let n : e ≡ Quiet = sym (rw q at k) ∙ same-levels z (levelsOf last) in
+          ⊎-elim
+          (λ x. let d : _≡_ {A = Event} (Expected (getD u 1 0)) (Sample (getD u 1 0)) = rw q at (x .1) in let o : _≡_ {A = ℕ} 0 1 = cc in absurd (omega arith))
+          (λ x. rw (x .1, q, n) held)
+          (stays-which 8 (answerNumber (answerOf z)) u h)

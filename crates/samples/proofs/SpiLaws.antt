@@ -1,20 +1,31 @@
 -- One sample of an SPI part, from the parts of the state that the loop keeps to those parts after it, edge by edge. Assumes
 -- nothing.
 use Prim.Native.Nat.{ℕ}
-use mathlib.Core.Path.{_≡_, refl, sym, ap}
-use mathlib.Core.Bool.{Bool}
+use mathlib.Core.Path.{_≡_, refl, sym, ap, _∙_}
+use mathlib.Core.Bool.{Bool, true, false}
 use mathlib.Core.List.{List}
+use mathlib.Core.Logic.{_⊎_, ⊎-elim}
+use native.Mathlib.Omega.{arith}
+use lib.Dec.{eqb}
+use lib.ListN.{getD}
+use borrow.Author.Tests.{eq-eqb}
 use Rattle.parts.specs.declared.answer.Answer.{Answer}
 use Rattle.parts.specs.declared.status.Status.{Status}
+use Rattle.parts.specs.Numbers.{answerNumber}
 use Rattle.parts.specs.Table.{partOf}
 use Rattle.serial.specs.Write.{applied}
-use Rattle.trace.specs.declared.event.Event.the-variants.{Sample}
+use Rattle.trace.specs.declared.event.Event.{Event}
+use Rattle.trace.specs.declared.event.Event.the-variants.{Sample, Expected}
+use Rattle.trace.specs.Sample.{staysFirst}
+use Rattle.trace.proofs.SampleLaws.{stays-which}
 use Rattle.spi.specs.declared.edge.Edge.{Edge}
 use Rattle.spi.specs.declared.edge.Edge.the-variants.{Select, Deselect, Rise, Fall, Quiet}
+use Rattle.spi.specs.declared.levels.Levels.{Levels}
 use Rattle.spi.specs.declared.phase.Phase.{Phase}
 use Rattle.spi.specs.declared.sample.Spi.{Spi}
 use Rattle.spi.specs.Edge.{edgeOf}
 use Rattle.spi.specs.Levels.{levelsOf}
+use Rattle.spi.specs.Show.{answerAt}
 use Rattle.spi.specs.Sample as SpiSample
 use Rattle.spi.specs.Sample.{stepOn, stepOf, Ready}
 use Rattle.chip.specs.declared.model.BusState.{BusState}
@@ -23,7 +34,7 @@ use Rattle.chip.specs.declared.model.Model.{Model}
 use Rattle.chip.specs.Event.{Outcome, Sound, accepted, spiSampled, advanceOf}
 use Rattle.chip.specs.Model.{modelOf}
 use Rattle.chip.proofs.CheckLaws.{sound-in, spi-ready}
-use Rattle.samples.specs.Samples.{spiOf}
+use Rattle.samples.specs.Samples.{firstDone, firstSample, spiOf}
 
 -- the state of the part s with these levels, register and phase
 abbrev pub spiModel : Model → Status → ℕ → Bool → Answer → Phase → Model
@@ -38,6 +49,16 @@ pub ready : (s : Model) (st : Status) (last : ℕ) (z : Bool) (shown : Answer) (
     → Ready (partOf (s .part)) (spiOf (levelsOf last) z shown ph) m
 ready s st last z shown ph m h =
     spi-ready (spiModel s st last z shown ph) (spiOf (levelsOf last) z shown ph) m refl (sound-in (spiModel s st last z shown ph) m h)
+
+-- nothing happens between two samples with the same levels
+same-levels : (l : Levels) → edgeOf l l ≡ Quiet
+same-levels l = by (l .cs) (l .hold) (l .sck) (l .si)
+  where
+    by : (c h k i : Bool) → edgeOf (record { cs = c; sck = k; si = i; wp = l .wp; hold = h }) (record { cs = c; sck = k; si = i; wp = l .wp; hold = h }) ≡ Quiet
+    by true h k i = refl
+    by false true true i = refl
+    by false true false i = refl
+    by false false k i = refl
 
 -- what the sample x gives
 module _ (s : Model) (st : Status) (last : ℕ) (z : Bool) (shown : Answer) (ph : Phase) (m : List ℕ) (x : ℕ) where
@@ -61,3 +82,23 @@ module _ (s : Model) (st : Status) (last : ℕ) (z : Bool) (shown : Answer) (ph 
   pub steps : (e : Edge) → edgeOf (levelsOf last) (levelsOf x) ≡ e → advanceOf (spiModel s st last z shown ph) m (Sample x) ≡ stepped e
   unfolding advanceOf stepOf
   steps e k = rw k (by-edge e)
+
+-- an expected answer that holds is like a sample with the same levels
+module _ (s : Model) (st : Status) (last : ℕ) (z : Bool) (shown : Answer) (ph : Phase) (m : List ℕ) where
+  held : advanceOf (spiModel s st last z shown ph) m (Expected (answerNumber (answerAt (levelsOf last) shown))) ≡ stepped s st last z shown ph m last Quiet
+  unfolding advanceOf
+  held = rw (eq-eqb (answerNumber (answerAt (levelsOf last) shown)) (answerNumber (answerAt (levelsOf last) shown)) refl)
+
+  -- what the event at the front of u gives
+  pub first-steps : (u : List ℕ) → staysFirst 32 (answerNumber (answerAt (levelsOf last) shown)) u ≡ true → (e : Edge) → edgeOf (levelsOf last) (levelsOf (firstSample last u)) ≡ e
+      → firstDone (spiModel s st last z shown ph) m u ≡ stepped s st last z shown ph m (firstSample last u) e
+  first-steps u h e k = by (eqb (getD u 0 0) 4) refl
+    where
+      by : (y : Bool) → eqb (getD u 0 0) 4 ≡ y → firstDone (spiModel s st last z shown ph) m u ≡ stepped s st last z shown ph m (firstSample last u) e
+      by true q = rw q (steps s st last z shown ph m (getD u 1 0) e (rw q at k))
+      by false q =
+          let n : e ≡ Quiet = sym (rw q at k) ∙ same-levels (levelsOf last) in
+          ⊎-elim
+          (λ x. let d : _≡_ {A = Event} (Expected (getD u 1 0)) (Sample (getD u 1 0)) = rw q at (x .1) in let o : _≡_ {A = ℕ} 0 1 = cc in absurd (omega arith))
+          (λ x. rw (x .1, q, n) held)
+          (stays-which 32 (answerNumber (answerAt (levelsOf last) shown)) u h)

@@ -1,26 +1,29 @@
--- Consecutive samples of a part under power: the events of a run up to the first one that is no sample in range.
+-- Consecutive samples of a part under power, with expected answers that hold among them: the events of a run up to the first other
+-- one.
 use Prim.Native.Nat.{ℕ, zero, suc, _+_}
 use mathlib.Core.Bool.{Bool, true, false, cond}
 use mathlib.Core.List.{List, [], _∷_}
-use lib.Dec.{ltb}
+use lib.Dec.{eqb, ltb}
 use lib.ListN.{drop, getD}
 use Rattle.parts.specs.declared.answer.Answer.{Answer}
-use Rattle.trace.specs.declared.event.Event.the-variants.{Sample}
-use Rattle.trace.specs.Sample.{sampleFirst}
+use Rattle.parts.specs.Numbers.{answerNumber}
+use Rattle.trace.specs.Sample.{staysFirst, firstEvent}
 use Rattle.spi.specs.declared.levels.Levels as SpiLevels
 use Rattle.spi.specs.declared.phase.Phase as SpiPhase
 use Rattle.spi.specs.declared.sample.Spi as SpiState
+use Rattle.spi.specs.Show as SpiShow
 use Rattle.i2c.specs.declared.buffer.AddressBuffer.{AddressBuffer}
 use Rattle.i2c.specs.declared.levels.Levels as I2cLevels
 use Rattle.i2c.specs.declared.phase.Phase as I2cPhase
 use Rattle.i2c.specs.declared.sample.I2c as I2cState
+use Rattle.i2c.specs.Sample as I2cSample
 use Rattle.chip.specs.declared.model.BusState.{BusState}
 use Rattle.chip.specs.declared.model.BusState.the-variants.{Unpowered, SpiOn, I2cOn}
 use Rattle.chip.specs.declared.model.Model.{Model}
 use Rattle.chip.specs.Event.{Outcome, advanceOf}
 use Rattle.samples.specs.declared.reached.Reached.{Reached}
 
--- state, count of samples, bytes taken, memory and answers
+-- state, count of events, bytes taken, memory and answers
 pub record Samples : Type 0 where
   pub model : Model
   pub count : ℕ
@@ -31,26 +34,26 @@ pub record Samples : Type 0 where
 abbrev pub none : Model → List ℕ → Samples
 none s m = record { model = s; count = 0; offset = 0; memory = m; answers = [] }
 
--- one sample with this answer before others
+-- one event with this answer before others
 abbrev pub one : ℕ → Samples → Samples
 one a r = record { model = r .model; count = 1 + r .count; offset = 2 + r .offset; memory = r .memory; answers = a ∷ r .answers }
 
--- whether the next event is a sample in range, of a part under power
-abbrev pub sampleNext : BusState → List ℕ → Bool
-sampleNext Unpowered t = false
-sampleNext (SpiOn x) t = sampleFirst 32 t
-sampleNext (I2cOn x) t = sampleFirst 8 t
+-- whether the next event is a sample in range, or an expected answer that holds, of a part under power
+abbrev pub staysOn : BusState → List ℕ → Bool
+staysOn Unpowered t = false
+staysOn (SpiOn x) t = staysFirst 32 (answerNumber (SpiShow.answerAt (x .last) (x .shown))) t
+staysOn (I2cOn x) t = staysFirst 8 (answerNumber (I2cSample.answerOf (x .pulling))) t
 
--- what the sample at the front of t does
-abbrev pub sampled : Model → List ℕ → List ℕ → Outcome
-sampled s m t = advanceOf s m (Sample (getD t 1 0))
+-- what that event does
+abbrev pub firstDone : Model → List ℕ → List ℕ → Outcome
+firstDone s m t = advanceOf s m (firstEvent t)
 
--- at most `quota` samples from the front of t
+-- at most `quota` of them from the front of t
 unfoldable pub samplesOf : ℕ → List ℕ → Model → List ℕ → Samples
 samplesOf zero t s m = none s m
 samplesOf (suc quota) t s m =
-    cond (sampleNext (s .bus) t)
-    (one (sampled s m t .result .answer) (samplesOf quota (drop 2 t) (sampled s m t .result .model) (sampled s m t .memory)))
+    cond (staysOn (s .bus) t)
+    (one (firstDone s m t .result .answer) (samplesOf quota (drop 2 t) (firstDone s m t .result .model) (firstDone s m t .memory)))
     (none s m)
 
 -- ---- how far a run has come with them
@@ -62,9 +65,14 @@ reached s c o = record { model = s; count = c; offset = o }
 abbrev pub reachedBy : ℕ → ℕ → Samples → Reached
 reachedBy c o r = reached (r .model) (c + r .count) (o + r .offset)
 
--- whether one more event is allowed and t begins with a sample below the limit
-abbrev pub nextIs : ℕ → ℕ → ℕ → List ℕ → Bool
-nextIs limit quota count t = cond (ltb count quota) (sampleFirst limit t) false
+-- whether one more event is allowed and t begins with a sample below the limit, or with this expected answer
+abbrev pub nextIs : ℕ → ℕ → ℕ → ℕ → List ℕ → Bool
+nextIs limit answer quota count t = cond (ltb count quota) (staysFirst limit answer t) false
+
+-- the sample that the event at the front of t amounts to, after the sample last: an expected answer that holds changes nothing, like
+-- a sample with the same levels
+abbrev pub firstSample : ℕ → List ℕ → ℕ
+firstSample last t = cond (eqb (getD t 0 0) 4) (getD t 1 0) last
 
 -- ---- the state of a bus, from its parts
 

@@ -1,4 +1,4 @@
-// As many samples as come one after the other, on either bus.
+// As many samples and expected answers that hold as come one after the other, on either bus.
 ghost use mathlib.Core.Path.{_≡_};
 ghost use Prim.Native.Nat.{_≤_, _-_};
 ghost use lib.ListN.{length, drop};

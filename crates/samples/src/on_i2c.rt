@@ -1,4 +1,4 @@
-// Consecutive samples of an I2C part.
+// Consecutive samples of an I2C part, with expected answers that hold among them.
 ghost use mathlib.Core.Path.{_≡_};
 ghost use Prim.Native.Nat.{_≤_, _-_};
 ghost use lib.ListN.{length, drop, set};
@@ -12,7 +12,7 @@ ghost use Rattle.i2c.specs.Sample.{answerOf};
 ghost use Rattle.i2c.specs.Store.{riseWrite};
 ghost use Rattle.chip.specs.Event.{Sound};
 ghost use Rattle.chip.specs.declared.model.BusState.the-variants.{I2cOn};
-ghost use Rattle.samples.specs.Samples.{samplesOf, reachedBy, i2cOf};
+ghost use Rattle.samples.specs.Samples.{samplesOf, reachedBy, nextIs, i2cOf};
 use crate::reached::Reached;
 use chip::model::BusState;
 use chip::model::Model;
@@ -64,7 +64,19 @@ fn store(part: Part, phase: Phase, wp: bool, memory: &mut [u8])
     serial::write::apply(write, memory);
 }
 
-// As many samples as come one after the other from start on, within the quota, where first events were accepted before.
+// Whether the quota allows one more event, and at offset there is a sample, or the present answer is expected.
+fn next_is(trace: &[u8], quota: usize, count: usize, offset: usize, pulling: bool) -> bool
+    requires { ⌜ offset ≤ length (now trace) ⌝ }
+    ensures { λ r. ⌜ r ≡ nextIs 8 (answerNumber (answerOf pulling)) quota count (drop offset (now (trace .entry))) ⌝ }
+{
+    if quota <= count {
+        return false;
+    }
+    let answer = i2c::sample::answer_of(pulling);
+    trace::sample::stays_first(&trace[offset..], 8, answer.number())
+}
+
+// As many of these events as come one after the other from start on, within the quota, where first events were accepted before.
 pub fn i2c_samples(
     part: Part,
     model: Model,
@@ -88,8 +100,8 @@ pub fn i2c_samples(
     let mut phase = i2c.phase;
     let mut count = first;
     let mut offset = start;
-    while crate::reached::next_is(trace, 8, quota, count, offset) {
-        let sample = trace[offset + 1];
+    while next_is(trace, quota, count, offset, pulling) {
+        let sample = crate::reached::first_sample(trace, offset, last);
         let levels = i2c::levels::levels_of(sample);
         let more = count + 1;
         let past = offset + 2;

@@ -1,4 +1,4 @@
-// Consecutive samples of an SPI part.
+// Consecutive samples of an SPI part, with expected answers that hold among them.
 ghost use mathlib.Core.Path.{_≡_};
 ghost use Prim.Native.Nat.{_≤_, _-_};
 ghost use lib.ListN.{length, drop, set};
@@ -13,7 +13,7 @@ ghost use Rattle.spi.specs.Store.{riseWrite};
 ghost use Rattle.chip.specs.Event.{Sound};
 ghost use Rattle.chip.specs.declared.model.BusState.the-variants.{SpiOn};
 ghost use Rattle.parts.specs.Numbers.{answerNumber};
-ghost use Rattle.samples.specs.Samples.{samplesOf, reachedBy, spiOf};
+ghost use Rattle.samples.specs.Samples.{samplesOf, reachedBy, nextIs, spiOf};
 use crate::reached::Reached;
 use chip::model::BusState;
 use chip::model::Model;
@@ -69,7 +69,23 @@ fn rise(part: Part, status: Status, phase: Phase, si: bool, memory: &mut [u8]) -
     spi::rise::after_rise(part, phase, si)
 }
 
-// As many samples as come one after the other from start on, within the quota, where first events were accepted before.
+// Whether the quota allows one more event, and at offset there is a sample, or the present answer is expected. That answer is made
+// only where it is asked for.
+fn next_is(trace: &[u8], quota: usize, count: usize, offset: usize, last: u8, shown: Answer) -> bool
+    requires { ⌜ offset ≤ length (now trace) ⌝ }
+    ensures { λ r. ⌜ r ≡ nextIs 32 (answerNumber (answerAt (levelsOf last) shown)) quota count (drop offset (now (trace .entry))) ⌝ }
+{
+    if quota <= count {
+        return false;
+    }
+    if trace::sample::sample_first(&trace[offset..], 32) {
+        return true;
+    }
+    let answer = spi::show::answer_at(spi::levels::levels_of(last), shown);
+    trace::sample::expected_first(&trace[offset..], answer.number())
+}
+
+// As many of these events as come one after the other from start on, within the quota, where first events were accepted before.
 pub fn spi_samples(
     part: Part,
     model: Model,
@@ -93,8 +109,8 @@ pub fn spi_samples(
     let mut phase = spi.phase;
     let mut count = first;
     let mut offset = start;
-    while crate::reached::next_is(trace, 32, quota, count, offset) {
-        let sample = trace[offset + 1];
+    while next_is(trace, quota, count, offset, last, shown) {
+        let sample = crate::reached::first_sample(trace, offset, last);
         let levels = spi::levels::levels_of(sample);
         let more = count + 1;
         let past = offset + 2;

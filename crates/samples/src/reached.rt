@@ -1,9 +1,9 @@
 // How far a run has come.
 ghost use mathlib.Core.Path.{_≡_};
-ghost use Prim.Native.Nat.{_≤_};
+ghost use Prim.Native.Nat.{_≤_, _+_};
 ghost use lib.ListN.{length, drop};
 ghost use Rattle.chip.specs.Model.{modelOf};
-ghost use Rattle.samples.specs.Samples.{reached, nextIs};
+ghost use Rattle.samples.specs.Samples.{reached, firstSample};
 use chip::model::BusState;
 use chip::model::Model;
 use parts::status::Status;
@@ -27,14 +27,14 @@ pub fn reach(model: Model, status: Status, bus: BusState, count: usize, offset: 
     }
 }
 
-// Whether the quota allows one more event and the bytes from offset on begin with a sample below limit.
-pub fn next_is(trace: &[u8], limit: u8, quota: usize, count: usize, offset: usize) -> bool
-    requires { ⌜ offset ≤ length (now trace) ⌝ }
-    ensures { λ r. ⌜ r ≡ nextIs limit quota count (drop offset (now (trace .entry))) ⌝ }
+// The sample that the event at offset amounts to, after the sample last: an expected answer that holds changes nothing.
+pub fn first_sample(trace: &[u8], offset: usize, last: u8) -> u8
+    requires { ⌜ offset + 2 ≤ length (now trace) ⌝ }
+    ensures { λ r. ⌜ r ≡ firstSample last (drop offset (now (trace .entry))) ⌝ }
 {
-    if count < quota {
-        trace::sample::sample_first(&trace[offset..], limit)
+    if trace[offset] == 4 {
+        trace[offset + 1]
     } else {
-        false
+        last
     }
 }

@@ -18,11 +18,15 @@ pub enum Edge {
 pub fn edge_of(before: Levels, now: Levels) -> Edge
     ensures { λ r. ⌜ r ≡ edgeOf before now ⌝ }
 {
-    if before.cs {
-        if now.cs { Edge::Quiet } else { Edge::Select }
-    } else {
-        if now.cs {
+    if now.cs {
+        if before.cs {
+            Edge::Quiet
+        } else {
             Edge::Deselect
+        }
+    } else {
+        if before.cs {
+            Edge::Select
         } else {
             clock_edge(before.hold, now.hold, before.sck, now.sck, now.si)
         }

@@ -1,19 +1,21 @@
--- Bytes that begin with a sample in range are read as that sample, and no others are. Assumes nothing.
-use Prim.Native.Nat.{ℕ, _≤_}
+-- Bytes that begin with a sample in range are read as that sample, and no others are; those that begin with an expected answer in
+-- range as that. Assumes nothing.
+use Prim.Native.Nat.{ℕ, _≤_, _<_}
 use mathlib.Core.Path.{_≡_, refl, sym, _∙_}
 use mathlib.Core.Bool.{Bool, true, false, cond}
+use mathlib.Core.Logic.{_⊎_, inl, inr, ⊎-elim}
 use mathlib.Core.List.{List}
 use native.Mathlib.Omega.{arith}
 use lib.Dec.{eqb, ltb}
 use lib.ListN.{length, getD}
-use borrow.Author.Tests.{eqb-true, ltb-false, le-ltb}
+use borrow.Author.Tests.{eqb-true, ltb-false, lt-ltb, le-ltb}
 use Rattle.parts.specs.declared.part.Part.{Part}
 use Rattle.trace.specs.declared.event.Event.{Event}
 use Rattle.trace.specs.declared.event.Event.the-variants.{SpiPowerOn, I2cPowerOn, PowerOff, Sample, Expected}
 use Rattle.trace.specs.declared.read.Read.the-variants.{Whole}
 use Rattle.trace.specs.Event.{sampleLimit, fieldsIn}
 use Rattle.trace.specs.Read.{startAddress, eventOf, readOf}
-use Rattle.trace.specs.Sample.{sampleFirst}
+use Rattle.trace.specs.Sample.{sampleFirst, expectedFirst, staysFirst, firstEvent}
 use Rattle.trace.proofs.ReadLaws.{passed, reads-whole}
 
 -- the three tests
@@ -33,6 +35,60 @@ sample-read p t h =
     let l : 2 ≤ length t = ltb-false (length t) 2 (s .0) in
     reads-whole p t (Sample (getD t 1 0)) 2
     (record { some = λ z. omega arith; known = rw k; long = rw k l; inside = rw k (s .1 .1); event = rw k; taken = rw k })
+
+expected-long : (a : ℕ) (t : List ℕ) → expectedFirst a t ≡ true → 2 ≤ length t
+expected-long a t h = ltb-false (length t) 2 (tests (ltb (length t) 2) (eqb (getD t 0 0) 5) (eqb (getD t 1 0) a) h .0)
+
+expected-at : (p : Part) (t : List ℕ) (a : ℕ) → a < 3 → expectedFirst a t ≡ true → readOf p t ≡ Whole (Expected a) 2
+expected-at p t a l h =
+    let s = tests (ltb (length t) 2) (eqb (getD t 0 0) 5) (eqb (getD t 1 0) a) h in
+    let k : getD t 0 0 ≡ 5 = eqb-true (getD t 0 0) 5 (s .1 .0) in
+    let v : getD t 1 0 ≡ a = eqb-true (getD t 1 0) a (s .1 .1) in
+    let n : 2 ≤ length t = ltb-false (length t) 2 (s .0) in
+    reads-whole p t (Expected a) 2
+    (record { some = λ z. omega arith; known = rw k; long = rw k n; inside = rw (k, v) (lt-ltb a 3 l); event = rw (k, v); taken = rw k })
+
+-- the two tests as one, by the kind
+either : (b : Bool) → cond b true false ≡ b
+either true = refl
+either false = refl
+
+module _ (limit a : ℕ) (t : List ℕ) (l : 2 ≤ length t) where
+  pub stays-4 : getD t 0 0 ≡ 4 → staysFirst limit a t ≡ ltb (getD t 1 0) limit
+  stays-4 k = rw (le-ltb (length t) 2 l, k) (either (ltb (getD t 1 0) limit))
+
+  pub stays-5 : getD t 0 0 ≡ 5 → staysFirst limit a t ≡ eqb (getD t 1 0) a
+  stays-5 k = rw (le-ltb (length t) 2 l, k)
+
+-- either of the two
+module _ (limit a : ℕ) (t : List ℕ) where
+  -- which of them
+  pub stays-which : staysFirst limit a t ≡ true
+      → ((sampleFirst limit t ≡ true) × (firstEvent t ≡ Sample (getD t 1 0))) ⊎ ((expectedFirst a t ≡ true) × (firstEvent t ≡ Expected a))
+  stays-which h = by (sampleFirst limit t) refl h
+    where
+      by : (y : Bool) → sampleFirst limit t ≡ y → cond y true (expectedFirst a t) ≡ true
+          → ((sampleFirst limit t ≡ true) × (firstEvent t ≡ Sample (getD t 1 0))) ⊎ ((expectedFirst a t ≡ true) × (firstEvent t ≡ Expected a))
+      by true e n =
+          let s = tests (ltb (length t) 2) (eqb (getD t 0 0) 4) (ltb (getD t 1 0) limit) e in
+          inl (e, rw (s .1 .0))
+      by false e n =
+          let s = tests (ltb (length t) 2) (eqb (getD t 0 0) 5) (eqb (getD t 1 0) a) n in
+          inr (n, rw (eqb-true (getD t 0 0) 5 (s .1 .0), eqb-true (getD t 1 0) a (s .1 .1)))
+
+  pub stays-long : staysFirst limit a t ≡ true → 2 ≤ length t
+  stays-long h = ⊎-elim (λ x. sample-long limit t (x .0)) (λ x. expected-long a t (x .0)) (stays-which h)
+
+  pub stays-none : staysFirst limit a t ≡ false → sampleFirst limit t ≡ false
+  stays-none h = by (sampleFirst limit t) h
+    where
+      by : (y : Bool) → cond y true (expectedFirst a t) ≡ false → y ≡ false
+      by false n = refl
+      by true n = n
+
+pub stays-read : (p : Part) (t : List ℕ) (a : ℕ) → a < 3 → staysFirst (sampleLimit (p .bus)) a t ≡ true → readOf p t ≡ Whole (firstEvent t) 2
+stays-read p t a l h =
+    ⊎-elim (λ x. rw (x .1) (sample-read p t (x .0))) (λ x. rw (x .1) (expected-at p t a l (x .0))) (stays-which (sampleLimit (p .bus)) a t h)
 
 -- an event that is no sample
 abbrev pub NoSample : Event → Type 0

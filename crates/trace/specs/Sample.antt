@@ -1,9 +1,24 @@
--- Whether the next event is a sample in range: kind 04 and a sample below the limit of the bus.
+-- Whether the next event is a sample in range, or an expected answer that holds; and what it is.
 use Prim.Native.Nat.{ℕ}
 use mathlib.Core.Bool.{Bool, true, false, cond}
 use mathlib.Core.List.{List}
 use lib.Dec.{eqb, ltb}
 use lib.ListN.{length, getD}
+use Rattle.trace.specs.declared.event.Event.{Event}
+use Rattle.trace.specs.declared.event.Event.the-variants.{Sample, Expected}
 
+-- kind 04 and a sample below the limit of the bus
 abbrev pub sampleFirst : ℕ → List ℕ → Bool
 sampleFirst limit t = cond (ltb (length t) 2) false (cond (eqb (getD t 0 0) 4) (ltb (getD t 1 0) limit) false)
+
+-- kind 05 and this answer
+abbrev pub expectedFirst : ℕ → List ℕ → Bool
+expectedFirst answer t = cond (ltb (length t) 2) false (cond (eqb (getD t 0 0) 5) (eqb (getD t 1 0) answer) false)
+
+-- either, where the part's present answer is this one
+abbrev pub staysFirst : ℕ → ℕ → List ℕ → Bool
+staysFirst limit answer t = cond (sampleFirst limit t) true (expectedFirst answer t)
+
+-- that event
+abbrev pub firstEvent : List ℕ → Event
+firstEvent t = cond (eqb (getD t 0 0) 4) (Sample (getD t 1 0)) (Expected (getD t 1 0))

@@ -1,6 +1,6 @@
-// Whether the next event is a sample.
+// Whether the next event is a sample, or an expected answer that holds.
 ghost use mathlib.Core.Path.{_≡_};
-ghost use Rattle.trace.specs.Sample.{sampleFirst};
+ghost use Rattle.trace.specs.Sample.{sampleFirst, expectedFirst, staysFirst};
 
 // Whether the bytes begin with a sample below limit.
 pub fn sample_first(bytes: &[u8], limit: u8) -> bool
@@ -14,4 +14,33 @@ pub fn sample_first(bytes: &[u8], limit: u8) -> bool
     } else {
         false
     }
+}
+
+// Whether the bytes begin with this expected answer.
+pub fn expected_first(bytes: &[u8], answer: u8) -> bool
+    ensures { λ r. ⌜ r ≡ expectedFirst answer (now (bytes .entry)) ⌝ }
+{
+    if bytes.len() < 2 {
+        return false;
+    }
+    if bytes[0] == 5 {
+        bytes[1] == answer
+    } else {
+        false
+    }
+}
+
+// Either of the two.
+pub fn stays_first(bytes: &[u8], limit: u8, answer: u8) -> bool
+    ensures { λ r. ⌜ r ≡ staysFirst limit answer (now (bytes .entry)) ⌝ }
+{
+    if bytes.len() < 2 {
+        return false;
+    }
+    let kind = bytes[0];
+    let value = bytes[1];
+    if kind == 4 {
+        return value < limit;
+    }
+    if kind == 5 { value == answer } else { false }
 }

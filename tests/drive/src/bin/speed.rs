@@ -2,6 +2,7 @@
 //! interleaved rounds, no answers collected on either side. `speed [ROUNDS]`.
 
 use drive::script::{addressed, Script};
+use drive::tally::events;
 use drive::{Making, Ran};
 use std::hint::black_box;
 use std::time::Instant;
@@ -21,8 +22,8 @@ struct Stream {
 fn main() {
     let rounds = std::env::args().nth(1).and_then(|word| word.parse().ok());
     let rounds = rounds.unwrap_or(15);
-    println!("                                      million samples a second     ns a sample");
-    println!("stream         memory     samples      proved        twin   ratio  proved    twin");
+    println!("                                       million events a second     ns an event");
+    println!("stream         memory      events      proved        twin   ratio  proved    twin");
     let streams = [
         spi_write(0),
         spi_read(0),
@@ -30,6 +31,8 @@ fn main() {
         i2c_read(3),
         random(0),
         random(3),
+        expected("SPI checked", spi_read(0)),
+        expected("I2C checked", i2c_read(3)),
     ];
     for stream in streams {
         measure(&stream, rounds);
@@ -104,6 +107,21 @@ fn i2c_read(part: u32) -> Stream {
     }
 }
 
+/// The same stream with the answer of each event expected after it.
+fn expected(name: &'static str, stream: Stream) -> Stream {
+    let (_, mut model) = Model::make(stream.part, 0, 0);
+    let mut memory = vec![0; PARTS[stream.part as usize].size];
+    let checked = events(&stream.trace).flat_map(|event| {
+        let (_, answer) = model.event(event, &mut memory);
+        [event, &[5, answer]].concat()
+    });
+    Stream {
+        name,
+        trace: checked.collect(),
+        ..stream
+    }
+}
+
 /// Any samples at all, after power on.
 fn random(part: u32) -> Stream {
     let mut rng = Rng::new(3);
@@ -126,7 +144,7 @@ fn random(part: u32) -> Stream {
 /// two times of a round, so that a load that comes and goes falls on both.
 fn measure(stream: &Stream, rounds: usize) {
     let size = PARTS[stream.part as usize].size;
-    let mut samples = 0;
+    let mut events = 0;
     let mut times = Vec::new();
     for round in 0..rounds {
         let (mut one, mut two) = (vec![0; size], vec![0; size]);
@@ -140,14 +158,14 @@ fn measure(stream: &Stream, rounds: usize) {
         };
         assert!(ran == same && one == two, "the two sides differ");
         assert_eq!(ran.number, 0, "the stream has a refused event");
-        samples = ran.count;
+        events = ran.count;
         times.push((our_time, their_time));
     }
     let (ours, theirs) = (median(&times, |it| it.0), median(&times, |it| it.1));
     let ratio = median(&times, |it| it.0 / it.1);
-    let rate = |seconds: f64| samples as f64 / seconds / 1e6;
-    let nanos = |seconds: f64| seconds * 1e9 / samples as f64;
-    print!("{:<11} {size:>9} {samples:>11} ", stream.name);
+    let rate = |seconds: f64| events as f64 / seconds / 1e6;
+    let nanos = |seconds: f64| seconds * 1e9 / events as f64;
+    print!("{:<11} {size:>9} {events:>11} ", stream.name);
     print!("{:>11.1} {:>11.1} {ratio:>7.2} ", rate(ours), rate(theirs));
     println!("{:>7.1} {:>7.1}", nanos(ours), nanos(theirs));
 }

@@ -6,13 +6,15 @@ use Prim.Native.Nat.{_-_}
 use native.Mathlib.Omega.{arith}
 use borrow.Author.Needs.{needs}
 use lib.ListN.{length, drop}
+use Rattle.parts.specs.Numbers.{answerNumber}
 use Rattle.parts.specs.Table.{partOf}
 use Rattle.parts.proofs.Rows.{part-fits}
 use Rattle.i2c.specs.declared.edge.Edge.the-variants.{Start, Stop, Rise, Fall, Quiet}
+use Rattle.i2c.specs.Sample.{answerOf}
 use Rattle.chip.proofs.CheckLaws.{sound-in}
 use Rattle.samples.specs.Samples.{samplesOf}
-use Rattle.samples.proofs.SamplesLaws.{end, three, more, room, Going, stops, goes-on}
-use Rattle.samples.proofs.I2cLaws.{i2cModel, same-model, ready, steps}
+use Rattle.samples.proofs.SamplesLaws.{end, three, more, first, room, Going, stops, goes-on}
+use Rattle.samples.proofs.I2cLaws.{i2cModel, same-model, ready, first-steps}
 use Rattle.samples.proofs.on_i2c.i2c_samples.Statement.{statement}
 use Rattle.samples.proofs.on_i2c.i2c_samples.Tie as tie
 
@@ -41,23 +43,15 @@ loop-holds c =
 next-is-requires : tie.Need-next-is-requires Inv-loop μ-loop
 next-is-requires c κs = c .loop .inv .3 .within
 
--- ---- the sums and the read of a turn: there is quota for it, and two bytes are left
+-- ---- a turn: there is quota for it, and two bytes are left
 
-add-sample : tie.Need-add-sample Inv-loop μ-loop
-add-sample c =
+first-sample-requires : tie.Need-first-sample-requires Inv-loop μ-loop
+first-sample-requires c κs =
     let next = c in
     let l = next .before .before .loop in
     let start = next .before .before .before .before .before .before .before .before .before in
     let h = sym (next .before .next-is .ensures) ∙ next .if1 .taken in
-    omega (arith, room 8 (start .args .quota) (l .count) (l .offset) (start .args .trace .now) h, start .good .1 .1 .1 .0 .0)
-
-shared-slice-read-sample : tie.Need-shared-slice-read-sample Inv-loop μ-loop
-shared-slice-read-sample c =
-    let next = c .before in
-    let l = next .before .before .loop in
-    let start = next .before .before .before .before .before .before .before .before .before in
-    let h = sym (next .before .next-is .ensures) ∙ next .if1 .taken in
-    omega (arith, room 8 (start .args .quota) (l .count) (l .offset) (start .args .trace .now) h)
+    room 8 (answerNumber (answerOf (l .pulling))) (start .args .quota) (l .count) (l .offset) (start .args .trace .now) h
 
 add-past : tie.Need-add-past Inv-loop μ-loop
 add-past c =
@@ -65,7 +59,7 @@ add-past c =
     let l = next .before .before .loop in
     let start = next .before .before .before .before .before .before .before .before .before in
     let h = sym (next .before .next-is .ensures) ∙ next .if1 .taken in
-    omega (arith, room 8 (start .args .quota) (l .count) (l .offset) (start .args .trace .now) h, start .good .1 .1 .1 .0 .0)
+    omega (arith, room 8 (answerNumber (answerOf (l .pulling))) (start .args .quota) (l .count) (l .offset) (start .args .trace .now) h, start .good .1 .1 .1 .0 .0)
 
 add-more : tie.Need-add-more Inv-loop μ-loop
 add-more c =
@@ -73,7 +67,7 @@ add-more c =
     let l = next .before .before .loop in
     let start = next .before .before .before .before .before .before .before .before .before in
     let h = sym (next .before .next-is .ensures) ∙ next .if1 .taken in
-    omega (arith, more 8 (start .args .quota) (l .count) (drop (l .offset) (start .args .trace .now)) h, start .fits .quota)
+    omega (arith, more 8 (answerNumber (answerOf (l .pulling))) (start .args .quota) (l .count) (drop (l .offset) (start .args .trace .now)) h, start .fits .quota)
 
 -- ---- what the rules ask of the state: it is ready for the next sample
 
@@ -118,7 +112,7 @@ loop-less c =
     let l = turn .before .before .before .before .before .before .loop in
     let start = turn .before .before .before .before .before .before .before .before .before .before .before .before .before in
     let h = sym (next .before .next-is .ensures) ∙ next .if1 .taken in
-    omega (arith, more 8 (start .args .quota) (l .count) (drop (l .offset) (start .args .trace .now)) h)
+    omega (arith, more 8 (answerNumber (answerOf (l .pulling))) (start .args .quota) (l .count) (drop (l .offset) (start .args .trace .now)) h)
 
 loop-again : tie.Need-loop-again Inv-loop μ-loop
 loop-again c =
@@ -128,9 +122,11 @@ loop-again c =
     let start = turn .before .before .before .before .before .before .before .before .before .before .before .before .before in
     let h = sym (next .before .next-is .ensures) ∙ next .if1 .taken in
     let a = start .args in
-    let e = rw (turn .before .levels-of2 .ensures, turn .before .before .levels-of .ensures) at (sym (turn .edge-of .ensures) ∙ c .before .before .before .before .before .enum-told .given .1) in
-    let g = goes-on (l .inv .3) 8 (λ u. refl) h _ refl _ (steps (a .model) (l .last) (l .pulling) (l .buffer) (l .phase) (l .memory) _ Start e) in
-    (l .inv .0, l .inv .1, c .before .before .before .note-pull .kept .0 ∙ l .inv .2, rw (c .taking .ensures, c .before .before .before .note-pull .ensures) g)
+    let e = rw (turn .before .levels-of2 .ensures, turn .before .before .levels-of .ensures, turn .before .before .before .first-sample .ensures) at (sym (turn .edge-of .ensures) ∙ c .before .before .before .before .before .enum-told .given .1) in
+    let u = drop (l .offset) (a .trace .now) in
+    let f = first 8 (answerNumber (answerOf (l .pulling))) (a .quota) (l .count) u h in
+    let g = goes-on (l .inv .3) 8 (answerNumber (answerOf (l .pulling))) (λ u. refl) h _ (first-steps (a .model) (l .last) (l .pulling) (l .buffer) (l .phase) (l .memory) u f Start e) in
+    (l .inv .0, l .inv .1, c .before .before .before .note-pull .kept .0 ∙ l .inv .2, rw (c .taking .ensures, c .before .before .before .note-pull .ensures, turn .before .before .before .first-sample .ensures) g)
 
 loop-less-2 : tie.Need-loop-less-2 Inv-loop μ-loop
 loop-less-2 c =
@@ -139,7 +135,7 @@ loop-less-2 c =
     let l = turn .before .before .before .before .before .before .loop in
     let start = turn .before .before .before .before .before .before .before .before .before .before .before .before .before in
     let h = sym (next .before .next-is .ensures) ∙ next .if1 .taken in
-    omega (arith, more 8 (start .args .quota) (l .count) (drop (l .offset) (start .args .trace .now)) h)
+    omega (arith, more 8 (answerNumber (answerOf (l .pulling))) (start .args .quota) (l .count) (drop (l .offset) (start .args .trace .now)) h)
 
 loop-again-2 : tie.Need-loop-again-2 Inv-loop μ-loop
 loop-again-2 c =
@@ -149,9 +145,11 @@ loop-again-2 c =
     let start = turn .before .before .before .before .before .before .before .before .before .before .before .before .before in
     let h = sym (next .before .next-is .ensures) ∙ next .if1 .taken in
     let a = start .args in
-    let e = rw (turn .before .levels-of2 .ensures, turn .before .before .levels-of .ensures) at (sym (turn .edge-of .ensures) ∙ c .before .before .before .before .enum-told2 .given .1) in
-    let g = goes-on (l .inv .3) 8 (λ u. refl) h _ refl _ (steps (a .model) (l .last) (l .pulling) (l .buffer) (l .phase) (l .memory) _ Stop e) in
-    (l .inv .0, l .inv .1, c .before .before .note-pull2 .kept .0 ∙ l .inv .2, rw (c .before .before .note-pull2 .ensures) g)
+    let e = rw (turn .before .levels-of2 .ensures, turn .before .before .levels-of .ensures, turn .before .before .before .first-sample .ensures) at (sym (turn .edge-of .ensures) ∙ c .before .before .before .before .enum-told2 .given .1) in
+    let u = drop (l .offset) (a .trace .now) in
+    let f = first 8 (answerNumber (answerOf (l .pulling))) (a .quota) (l .count) u h in
+    let g = goes-on (l .inv .3) 8 (answerNumber (answerOf (l .pulling))) (λ u. refl) h _ (first-steps (a .model) (l .last) (l .pulling) (l .buffer) (l .phase) (l .memory) u f Stop e) in
+    (l .inv .0, l .inv .1, c .before .before .note-pull2 .kept .0 ∙ l .inv .2, rw (c .before .before .note-pull2 .ensures, turn .before .before .before .first-sample .ensures) g)
 
 loop-less-3 : tie.Need-loop-less-3 Inv-loop μ-loop
 loop-less-3 c =
@@ -160,7 +158,7 @@ loop-less-3 c =
     let l = turn .before .before .before .before .before .before .loop in
     let start = turn .before .before .before .before .before .before .before .before .before .before .before .before .before in
     let h = sym (next .before .next-is .ensures) ∙ next .if1 .taken in
-    omega (arith, more 8 (start .args .quota) (l .count) (drop (l .offset) (start .args .trace .now)) h)
+    omega (arith, more 8 (answerNumber (answerOf (l .pulling))) (start .args .quota) (l .count) (drop (l .offset) (start .args .trace .now)) h)
 
 loop-again-3 : tie.Need-loop-again-3 Inv-loop μ-loop
 loop-again-3 c =
@@ -170,9 +168,11 @@ loop-again-3 c =
     let start = turn .before .before .before .before .before .before .before .before .before .before .before .before .before in
     let h = sym (next .before .next-is .ensures) ∙ next .if1 .taken in
     let a = start .args in
-    let e = rw (turn .before .levels-of2 .ensures, turn .before .before .levels-of .ensures) at (sym (turn .edge-of .ensures) ∙ c .before .before .before .before .before .before .before .before .before .before .before .line .given .1) in
-    let g = goes-on (l .inv .3) 8 (λ u. refl) h _ refl _ (steps (a .model) (l .last) (l .pulling) (l .buffer) (l .phase) (l .memory) _ (Rise _) e) in
-    (l .inv .0, c .before .before .before .before .store .kept .1 .1 .1 .0 ∙ l .inv .1, c .before .before .before .before .before .before .before .before .note-pull3 .kept .0 ∙ l .inv .2, rw (c .buffer-after .ensures, c .before .after-rise .ensures, c .before .before .before .before .store .ensures, c .before .before .before .before .before .before .before .before .note-pull3 .ensures, turn .before .before .levels-of .ensures, l .inv .0) g)
+    let e = rw (turn .before .levels-of2 .ensures, turn .before .before .levels-of .ensures, turn .before .before .before .first-sample .ensures) at (sym (turn .edge-of .ensures) ∙ c .before .before .before .before .before .before .before .before .before .before .before .line .given .1) in
+    let u = drop (l .offset) (a .trace .now) in
+    let f = first 8 (answerNumber (answerOf (l .pulling))) (a .quota) (l .count) u h in
+    let g = goes-on (l .inv .3) 8 (answerNumber (answerOf (l .pulling))) (λ u. refl) h _ (first-steps (a .model) (l .last) (l .pulling) (l .buffer) (l .phase) (l .memory) u f (Rise _) e) in
+    (l .inv .0, c .before .before .before .before .store .kept .1 .1 .1 .0 ∙ l .inv .1, c .before .before .before .before .before .before .before .before .note-pull3 .kept .0 ∙ l .inv .2, rw (c .buffer-after .ensures, c .before .after-rise .ensures, c .before .before .before .before .store .ensures, c .before .before .before .before .before .before .before .before .note-pull3 .ensures, turn .before .before .levels-of .ensures, l .inv .0, turn .before .before .before .first-sample .ensures) g)
 
 loop-less-4 : tie.Need-loop-less-4 Inv-loop μ-loop
 loop-less-4 c =
@@ -181,7 +181,7 @@ loop-less-4 c =
     let l = turn .before .before .before .before .before .before .loop in
     let start = turn .before .before .before .before .before .before .before .before .before .before .before .before .before in
     let h = sym (next .before .next-is .ensures) ∙ next .if1 .taken in
-    omega (arith, more 8 (start .args .quota) (l .count) (drop (l .offset) (start .args .trace .now)) h)
+    omega (arith, more 8 (answerNumber (answerOf (l .pulling))) (start .args .quota) (l .count) (drop (l .offset) (start .args .trace .now)) h)
 
 loop-again-4 : tie.Need-loop-again-4 Inv-loop μ-loop
 loop-again-4 c =
@@ -191,9 +191,11 @@ loop-again-4 c =
     let start = turn .before .before .before .before .before .before .before .before .before .before .before .before .before in
     let h = sym (next .before .next-is .ensures) ∙ next .if1 .taken in
     let a = start .args in
-    let e = rw (turn .before .levels-of2 .ensures, turn .before .before .levels-of .ensures) at (sym (turn .edge-of .ensures) ∙ c .before .before .before .before .before .before .enum-told3 .given .1) in
-    let g = goes-on (l .inv .3) 8 (λ u. refl) h _ refl _ (steps (a .model) (l .last) (l .pulling) (l .buffer) (l .phase) (l .memory) _ Fall e) in
-    (l .inv .0, l .inv .1, c .before .before .note-pull4 .kept .0 ∙ l .inv .2, rw (c .before .before .note-pull4 .ensures, c .before .before .before .before .pulls-after .ensures, l .inv .0) g)
+    let e = rw (turn .before .levels-of2 .ensures, turn .before .before .levels-of .ensures, turn .before .before .before .first-sample .ensures) at (sym (turn .edge-of .ensures) ∙ c .before .before .before .before .before .before .enum-told3 .given .1) in
+    let u = drop (l .offset) (a .trace .now) in
+    let f = first 8 (answerNumber (answerOf (l .pulling))) (a .quota) (l .count) u h in
+    let g = goes-on (l .inv .3) 8 (answerNumber (answerOf (l .pulling))) (λ u. refl) h _ (first-steps (a .model) (l .last) (l .pulling) (l .buffer) (l .phase) (l .memory) u f Fall e) in
+    (l .inv .0, l .inv .1, c .before .before .note-pull4 .kept .0 ∙ l .inv .2, rw (c .before .before .note-pull4 .ensures, c .before .before .before .before .pulls-after .ensures, l .inv .0, turn .before .before .before .first-sample .ensures) g)
 
 loop-less-5 : tie.Need-loop-less-5 Inv-loop μ-loop
 loop-less-5 c =
@@ -202,7 +204,7 @@ loop-less-5 c =
     let l = turn .before .before .before .before .before .before .loop in
     let start = turn .before .before .before .before .before .before .before .before .before .before .before .before .before in
     let h = sym (next .before .next-is .ensures) ∙ next .if1 .taken in
-    omega (arith, more 8 (start .args .quota) (l .count) (drop (l .offset) (start .args .trace .now)) h)
+    omega (arith, more 8 (answerNumber (answerOf (l .pulling))) (start .args .quota) (l .count) (drop (l .offset) (start .args .trace .now)) h)
 
 loop-again-5 : tie.Need-loop-again-5 Inv-loop μ-loop
 loop-again-5 c =
@@ -212,16 +214,18 @@ loop-again-5 c =
     let start = turn .before .before .before .before .before .before .before .before .before .before .before .before .before in
     let h = sym (next .before .next-is .ensures) ∙ next .if1 .taken in
     let a = start .args in
-    let e = rw (turn .before .levels-of2 .ensures, turn .before .before .levels-of .ensures) at (sym (turn .edge-of .ensures) ∙ c .before .before .before .before .enum-told4 .given .1) in
-    let g = goes-on (l .inv .3) 8 (λ u. refl) h _ refl _ (steps (a .model) (l .last) (l .pulling) (l .buffer) (l .phase) (l .memory) _ Quiet e) in
-    (l .inv .0, l .inv .1, c .before .before .note-pull5 .kept .0 ∙ l .inv .2, rw (c .before .before .note-pull5 .ensures) g)
+    let e = rw (turn .before .levels-of2 .ensures, turn .before .before .levels-of .ensures, turn .before .before .before .first-sample .ensures) at (sym (turn .edge-of .ensures) ∙ c .before .before .before .before .enum-told4 .given .1) in
+    let u = drop (l .offset) (a .trace .now) in
+    let f = first 8 (answerNumber (answerOf (l .pulling))) (a .quota) (l .count) u h in
+    let g = goes-on (l .inv .3) 8 (answerNumber (answerOf (l .pulling))) (λ u. refl) h _ (first-steps (a .model) (l .last) (l .pulling) (l .buffer) (l .phase) (l .memory) u f Quiet e) in
+    (l .inv .0, l .inv .1, c .before .before .note-pull5 .kept .0 ∙ l .inv .2, rw (c .before .before .note-pull5 .ensures, turn .before .before .before .first-sample .ensures) g)
 
 -- ---- at the end nothing is left
 
 returns : tie.Need-returns Inv-loop μ-loop
 returns c =
     let l = c .before .before .before .before .before .loop in
-    let e = three _ _ (stops (l .inv .3) 8 (λ u. refl) (sym (c .before .before .before .before .next-is .ensures) ∙ c .before .before .before .if1 .left)) in
+    let e = three _ _ (stops (l .inv .3) 8 (answerNumber (answerOf (l .pulling))) (λ u. refl) (sym (c .before .before .before .before .next-is .ensures) ∙ c .before .before .before .if1 .left)) in
     (c .reach .ensures ∙ rw (c .before .on-bus .ensures) (e .0), (e .1, e .2))
 
 pub i2c-samples-spec : {M : Type 1} → statement M
@@ -234,8 +238,7 @@ i2c-samples-spec =
     (λ c κs. search needs)
     loop-holds
     next-is-requires
-    add-sample
-    shared-slice-read-sample
+    first-sample-requires
     (λ c κs. search needs)
     add-more
     add-past

@@ -6,11 +6,14 @@ use Prim.Native.Nat.{_-_}
 use native.Mathlib.Omega.{arith}
 use borrow.Author.Needs.{needs}
 use lib.ListN.{length, drop}
+use Rattle.parts.specs.Numbers.{answerNumber}
 use Rattle.parts.specs.Table.{partOf}
 use Rattle.spi.specs.declared.edge.Edge.the-variants.{Select, Deselect, Rise, Fall, Quiet}
+use Rattle.spi.specs.Levels.{levelsOf}
+use Rattle.spi.specs.Show.{answerAt}
 use Rattle.samples.specs.Samples.{samplesOf}
-use Rattle.samples.proofs.SamplesLaws.{end, three, more, room, Going, stops, goes-on}
-use Rattle.samples.proofs.SpiLaws.{spiModel, same-model, ready, steps}
+use Rattle.samples.proofs.SamplesLaws.{end, three, more, first, room, Going, stops, goes-on}
+use Rattle.samples.proofs.SpiLaws.{spiModel, same-model, ready, first-steps}
 use Rattle.samples.proofs.on_spi.spi_samples.Statement.{statement}
 use Rattle.samples.proofs.on_spi.spi_samples.Tie as tie
 
@@ -33,23 +36,15 @@ loop-holds c =
 next-is-requires : tie.Need-next-is-requires Inv-loop μ-loop
 next-is-requires c κs = c .loop .inv .3 .within
 
--- ---- the sums and the read of a turn: there is quota for it, and two bytes are left
+-- ---- a turn: there is quota for it, and two bytes are left
 
-add-sample : tie.Need-add-sample Inv-loop μ-loop
-add-sample c =
+first-sample-requires : tie.Need-first-sample-requires Inv-loop μ-loop
+first-sample-requires c κs =
     let next = c in
     let l = next .before .before .loop in
     let start = next .before .before .before .before .before .before .before .before in
     let h = sym (next .before .next-is .ensures) ∙ next .if1 .taken in
-    omega (arith, room 32 (start .args .quota) (l .count) (l .offset) (start .args .trace .now) h, start .good .1 .1 .1 .0 .0)
-
-shared-slice-read-sample : tie.Need-shared-slice-read-sample Inv-loop μ-loop
-shared-slice-read-sample c =
-    let next = c .before in
-    let l = next .before .before .loop in
-    let start = next .before .before .before .before .before .before .before .before in
-    let h = sym (next .before .next-is .ensures) ∙ next .if1 .taken in
-    omega (arith, room 32 (start .args .quota) (l .count) (l .offset) (start .args .trace .now) h)
+    room 32 (answerNumber (answerAt (levelsOf (l .last)) (l .shown))) (start .args .quota) (l .count) (l .offset) (start .args .trace .now) h
 
 add-past : tie.Need-add-past Inv-loop μ-loop
 add-past c =
@@ -57,7 +52,7 @@ add-past c =
     let l = next .before .before .loop in
     let start = next .before .before .before .before .before .before .before .before in
     let h = sym (next .before .next-is .ensures) ∙ next .if1 .taken in
-    omega (arith, room 32 (start .args .quota) (l .count) (l .offset) (start .args .trace .now) h, start .good .1 .1 .1 .0 .0)
+    omega (arith, room 32 (answerNumber (answerAt (levelsOf (l .last)) (l .shown))) (start .args .quota) (l .count) (l .offset) (start .args .trace .now) h, start .good .1 .1 .1 .0 .0)
 
 add-more : tie.Need-add-more Inv-loop μ-loop
 add-more c =
@@ -65,7 +60,7 @@ add-more c =
     let l = next .before .before .loop in
     let start = next .before .before .before .before .before .before .before .before in
     let h = sym (next .before .next-is .ensures) ∙ next .if1 .taken in
-    omega (arith, more 32 (start .args .quota) (l .count) (drop (l .offset) (start .args .trace .now)) h, start .fits .quota)
+    omega (arith, more 32 (answerNumber (answerAt (levelsOf (l .last)) (l .shown))) (start .args .quota) (l .count) (drop (l .offset) (start .args .trace .now)) h, start .fits .quota)
 
 -- ---- what the rules ask of the state: it is ready for the next sample
 
@@ -94,7 +89,7 @@ loop-less c =
     let l = turn .before .before .before .before .before .before .loop in
     let start = turn .before .before .before .before .before .before .before .before .before .before .before .before in
     let h = sym (next .before .next-is .ensures) ∙ next .if1 .taken in
-    omega (arith, more 32 (start .args .quota) (l .count) (drop (l .offset) (start .args .trace .now)) h)
+    omega (arith, more 32 (answerNumber (answerAt (levelsOf (l .last)) (l .shown))) (start .args .quota) (l .count) (drop (l .offset) (start .args .trace .now)) h)
 
 loop-again : tie.Need-loop-again Inv-loop μ-loop
 loop-again c =
@@ -104,9 +99,11 @@ loop-again c =
     let start = turn .before .before .before .before .before .before .before .before .before .before .before .before in
     let h = sym (next .before .next-is .ensures) ∙ next .if1 .taken in
     let a = start .args in
-    let e = rw (turn .before .levels-of2 .ensures, turn .before .before .levels-of .ensures) at (sym (turn .edge-of .ensures) ∙ c .before .before .before .before .before .enum-told .given .1) in
-    let g = goes-on (l .inv .3) 32 (λ u. refl) h _ refl _ (steps (a .model) (l .status) (l .last) (l .asleep) (l .shown) (l .phase) (l .memory) _ Select e) in
-    (l .inv .0, l .inv .1, c .before .before .before .note-shown .kept .0 ∙ l .inv .2, rw (c .select .ensures, c .before .before .before .note-shown .ensures, turn .before .before .levels-of .ensures) g)
+    let e = rw (turn .before .levels-of2 .ensures, turn .before .before .levels-of .ensures, turn .before .before .before .first-sample .ensures) at (sym (turn .edge-of .ensures) ∙ c .before .before .before .before .before .enum-told .given .1) in
+    let u = drop (l .offset) (a .trace .now) in
+    let f = first 32 (answerNumber (answerAt (levelsOf (l .last)) (l .shown))) (a .quota) (l .count) u h in
+    let g = goes-on (l .inv .3) 32 (answerNumber (answerAt (levelsOf (l .last)) (l .shown))) (λ u. refl) h _ (first-steps (a .model) (l .status) (l .last) (l .asleep) (l .shown) (l .phase) (l .memory) u f Select e) in
+    (l .inv .0, l .inv .1, c .before .before .before .note-shown .kept .0 ∙ l .inv .2, rw (c .select .ensures, c .before .before .before .note-shown .ensures, turn .before .before .levels-of .ensures, turn .before .before .before .first-sample .ensures) g)
 
 loop-less-2 : tie.Need-loop-less-2 Inv-loop μ-loop
 loop-less-2 c =
@@ -115,7 +112,7 @@ loop-less-2 c =
     let l = turn .before .before .before .before .before .before .loop in
     let start = turn .before .before .before .before .before .before .before .before .before .before .before .before in
     let h = sym (next .before .next-is .ensures) ∙ next .if1 .taken in
-    omega (arith, more 32 (start .args .quota) (l .count) (drop (l .offset) (start .args .trace .now)) h)
+    omega (arith, more 32 (answerNumber (answerAt (levelsOf (l .last)) (l .shown))) (start .args .quota) (l .count) (drop (l .offset) (start .args .trace .now)) h)
 
 loop-again-2 : tie.Need-loop-again-2 Inv-loop μ-loop
 loop-again-2 c =
@@ -125,9 +122,11 @@ loop-again-2 c =
     let start = turn .before .before .before .before .before .before .before .before .before .before .before .before in
     let h = sym (next .before .next-is .ensures) ∙ next .if1 .taken in
     let a = start .args in
-    let e = rw (turn .before .levels-of2 .ensures, turn .before .before .levels-of .ensures) at (sym (turn .edge-of .ensures) ∙ c .before .before .before .before .before .before .enum-told2 .given .1) in
-    let g = goes-on (l .inv .3) 32 (λ u. refl) h _ refl _ (steps (a .model) (l .status) (l .last) (l .asleep) (l .shown) (l .phase) (l .memory) _ Deselect e) in
-    (l .inv .0, l .inv .1, c .before .before .before .before .note-shown2 .kept .0 ∙ l .inv .2, rw (c .asleep-after .ensures, c .before .status-after .ensures, c .before .before .before .before .note-shown2 .ensures, turn .before .before .levels-of .ensures) g)
+    let e = rw (turn .before .levels-of2 .ensures, turn .before .before .levels-of .ensures, turn .before .before .before .first-sample .ensures) at (sym (turn .edge-of .ensures) ∙ c .before .before .before .before .before .before .enum-told2 .given .1) in
+    let u = drop (l .offset) (a .trace .now) in
+    let f = first 32 (answerNumber (answerAt (levelsOf (l .last)) (l .shown))) (a .quota) (l .count) u h in
+    let g = goes-on (l .inv .3) 32 (answerNumber (answerAt (levelsOf (l .last)) (l .shown))) (λ u. refl) h _ (first-steps (a .model) (l .status) (l .last) (l .asleep) (l .shown) (l .phase) (l .memory) u f Deselect e) in
+    (l .inv .0, l .inv .1, c .before .before .before .before .note-shown2 .kept .0 ∙ l .inv .2, rw (c .asleep-after .ensures, c .before .status-after .ensures, c .before .before .before .before .note-shown2 .ensures, turn .before .before .levels-of .ensures, turn .before .before .before .first-sample .ensures) g)
 
 loop-less-3 : tie.Need-loop-less-3 Inv-loop μ-loop
 loop-less-3 c =
@@ -136,7 +135,7 @@ loop-less-3 c =
     let l = turn .before .before .before .before .before .before .loop in
     let start = turn .before .before .before .before .before .before .before .before .before .before .before .before in
     let h = sym (next .before .next-is .ensures) ∙ next .if1 .taken in
-    omega (arith, more 32 (start .args .quota) (l .count) (drop (l .offset) (start .args .trace .now)) h)
+    omega (arith, more 32 (answerNumber (answerAt (levelsOf (l .last)) (l .shown))) (start .args .quota) (l .count) (drop (l .offset) (start .args .trace .now)) h)
 
 loop-again-3 : tie.Need-loop-again-3 Inv-loop μ-loop
 loop-again-3 c =
@@ -146,9 +145,11 @@ loop-again-3 c =
     let start = turn .before .before .before .before .before .before .before .before .before .before .before .before in
     let h = sym (next .before .next-is .ensures) ∙ next .if1 .taken in
     let a = start .args in
-    let e = rw (turn .before .levels-of2 .ensures, turn .before .before .levels-of .ensures) at (sym (turn .edge-of .ensures) ∙ c .before .before .before .before .before .before .before .before .before .si .given .1) in
-    let g = goes-on (l .inv .3) 32 (λ u. refl) h _ refl _ (steps (a .model) (l .status) (l .last) (l .asleep) (l .shown) (l .phase) (l .memory) _ (Rise _) e) in
-    (l .inv .0, c .before .before .rise .kept .1 .1 .1 .1 .0 ∙ l .inv .1, c .before .before .before .before .before .before .note-shown3 .kept .0 ∙ l .inv .2, rw (c .before .before .rise .ensures .0, c .before .before .rise .ensures .1, c .before .before .before .before .before .before .note-shown3 .ensures, turn .before .before .levels-of .ensures, l .inv .0) g)
+    let e = rw (turn .before .levels-of2 .ensures, turn .before .before .levels-of .ensures, turn .before .before .before .first-sample .ensures) at (sym (turn .edge-of .ensures) ∙ c .before .before .before .before .before .before .before .before .before .si .given .1) in
+    let u = drop (l .offset) (a .trace .now) in
+    let f = first 32 (answerNumber (answerAt (levelsOf (l .last)) (l .shown))) (a .quota) (l .count) u h in
+    let g = goes-on (l .inv .3) 32 (answerNumber (answerAt (levelsOf (l .last)) (l .shown))) (λ u. refl) h _ (first-steps (a .model) (l .status) (l .last) (l .asleep) (l .shown) (l .phase) (l .memory) u f (Rise _) e) in
+    (l .inv .0, c .before .before .rise .kept .1 .1 .1 .1 .0 ∙ l .inv .1, c .before .before .before .before .before .before .note-shown3 .kept .0 ∙ l .inv .2, rw (c .before .before .rise .ensures .0, c .before .before .rise .ensures .1, c .before .before .before .before .before .before .note-shown3 .ensures, turn .before .before .levels-of .ensures, l .inv .0, turn .before .before .before .first-sample .ensures) g)
 
 loop-less-4 : tie.Need-loop-less-4 Inv-loop μ-loop
 loop-less-4 c =
@@ -157,7 +158,7 @@ loop-less-4 c =
     let l = turn .before .before .before .before .before .before .loop in
     let start = turn .before .before .before .before .before .before .before .before .before .before .before .before in
     let h = sym (next .before .next-is .ensures) ∙ next .if1 .taken in
-    omega (arith, more 32 (start .args .quota) (l .count) (drop (l .offset) (start .args .trace .now)) h)
+    omega (arith, more 32 (answerNumber (answerAt (levelsOf (l .last)) (l .shown))) (start .args .quota) (l .count) (drop (l .offset) (start .args .trace .now)) h)
 
 loop-again-4 : tie.Need-loop-again-4 Inv-loop μ-loop
 loop-again-4 c =
@@ -167,9 +168,11 @@ loop-again-4 c =
     let start = turn .before .before .before .before .before .before .before .before .before .before .before .before in
     let h = sym (next .before .next-is .ensures) ∙ next .if1 .taken in
     let a = start .args in
-    let e = rw (turn .before .levels-of2 .ensures, turn .before .before .levels-of .ensures) at (sym (turn .edge-of .ensures) ∙ c .before .before .before .before .before .before .enum-told3 .given .1) in
-    let g = goes-on (l .inv .3) 32 (λ u. refl) h _ refl _ (steps (a .model) (l .status) (l .last) (l .asleep) (l .shown) (l .phase) (l .memory) _ Fall e) in
-    (l .inv .0, l .inv .1, c .before .before .note-shown4 .kept .0 ∙ l .inv .2, rw (c .before .before .note-shown4 .ensures, c .before .before .before .before .after-fall .ensures, l .inv .0, turn .before .before .levels-of .ensures) g)
+    let e = rw (turn .before .levels-of2 .ensures, turn .before .before .levels-of .ensures, turn .before .before .before .first-sample .ensures) at (sym (turn .edge-of .ensures) ∙ c .before .before .before .before .before .before .enum-told3 .given .1) in
+    let u = drop (l .offset) (a .trace .now) in
+    let f = first 32 (answerNumber (answerAt (levelsOf (l .last)) (l .shown))) (a .quota) (l .count) u h in
+    let g = goes-on (l .inv .3) 32 (answerNumber (answerAt (levelsOf (l .last)) (l .shown))) (λ u. refl) h _ (first-steps (a .model) (l .status) (l .last) (l .asleep) (l .shown) (l .phase) (l .memory) u f Fall e) in
+    (l .inv .0, l .inv .1, c .before .before .note-shown4 .kept .0 ∙ l .inv .2, rw (c .before .before .note-shown4 .ensures, c .before .before .before .before .after-fall .ensures, l .inv .0, turn .before .before .levels-of .ensures, turn .before .before .before .first-sample .ensures) g)
 
 loop-less-5 : tie.Need-loop-less-5 Inv-loop μ-loop
 loop-less-5 c =
@@ -178,7 +181,7 @@ loop-less-5 c =
     let l = turn .before .before .before .before .before .before .loop in
     let start = turn .before .before .before .before .before .before .before .before .before .before .before .before in
     let h = sym (next .before .next-is .ensures) ∙ next .if1 .taken in
-    omega (arith, more 32 (start .args .quota) (l .count) (drop (l .offset) (start .args .trace .now)) h)
+    omega (arith, more 32 (answerNumber (answerAt (levelsOf (l .last)) (l .shown))) (start .args .quota) (l .count) (drop (l .offset) (start .args .trace .now)) h)
 
 loop-again-5 : tie.Need-loop-again-5 Inv-loop μ-loop
 loop-again-5 c =
@@ -188,16 +191,18 @@ loop-again-5 c =
     let start = turn .before .before .before .before .before .before .before .before .before .before .before .before in
     let h = sym (next .before .next-is .ensures) ∙ next .if1 .taken in
     let a = start .args in
-    let e = rw (turn .before .levels-of2 .ensures, turn .before .before .levels-of .ensures) at (sym (turn .edge-of .ensures) ∙ c .before .before .before .before .enum-told4 .given .1) in
-    let g = goes-on (l .inv .3) 32 (λ u. refl) h _ refl _ (steps (a .model) (l .status) (l .last) (l .asleep) (l .shown) (l .phase) (l .memory) _ Quiet e) in
-    (l .inv .0, l .inv .1, c .before .before .note-shown5 .kept .0 ∙ l .inv .2, rw (c .before .before .note-shown5 .ensures, turn .before .before .levels-of .ensures) g)
+    let e = rw (turn .before .levels-of2 .ensures, turn .before .before .levels-of .ensures, turn .before .before .before .first-sample .ensures) at (sym (turn .edge-of .ensures) ∙ c .before .before .before .before .enum-told4 .given .1) in
+    let u = drop (l .offset) (a .trace .now) in
+    let f = first 32 (answerNumber (answerAt (levelsOf (l .last)) (l .shown))) (a .quota) (l .count) u h in
+    let g = goes-on (l .inv .3) 32 (answerNumber (answerAt (levelsOf (l .last)) (l .shown))) (λ u. refl) h _ (first-steps (a .model) (l .status) (l .last) (l .asleep) (l .shown) (l .phase) (l .memory) u f Quiet e) in
+    (l .inv .0, l .inv .1, c .before .before .note-shown5 .kept .0 ∙ l .inv .2, rw (c .before .before .note-shown5 .ensures, turn .before .before .levels-of .ensures, turn .before .before .before .first-sample .ensures) g)
 
 -- ---- at the end nothing is left
 
 returns : tie.Need-returns Inv-loop μ-loop
 returns c =
     let l = c .before .before .before .before .loop in
-    let e = three _ _ (stops (l .inv .3) 32 (λ u. refl) (sym (c .before .before .before .next-is .ensures) ∙ c .before .before .if1 .left)) in
+    let e = three _ _ (stops (l .inv .3) 32 (answerNumber (answerAt (levelsOf (l .last)) (l .shown))) (λ u. refl) (sym (c .before .before .before .next-is .ensures) ∙ c .before .before .if1 .left)) in
     (c .reach .ensures ∙ rw (c .before .on-bus .ensures) (e .0), (e .1, e .2))
 
 pub spi-samples-spec : {M : Type 1} → statement M
@@ -209,8 +214,7 @@ spi-samples-spec =
     (λ c κs. search needs)
     loop-holds
     next-is-requires
-    add-sample
-    shared-slice-read-sample
+    first-sample-requires
     (λ c κs. search needs)
     add-more
     add-past
