@@ -13,8 +13,8 @@ use Rattle.i2c.specs.Levels.{levelsOf}
 use Rattle.i2c.specs.Word.{wordOf}
 use Rattle.ledger.specs.Bits.{number}
 use Rattle.ledger.specs.History.{Entry}
-use Rattle.ledger.specs.I2cLedger.{Clock, wiresAt, edgeBetween, lastWires, items}
-use Rattle.ledger.specs.I2cAnswers.{Nine, nines, unfinished, eighth, isOwn, after, fallIn, pullsSince, memoryOf, bufferBefore, pulls, pullAnswer, presentAnswer, i2cAnswer}
+use Rattle.ledger.specs.I2cLedger.{Clock, Byte, bytes, wiresAt, edgeBetween, lastWires, items}
+use Rattle.ledger.specs.I2cAnswers.{unfinished, eighth, isOwn, after, fallIn, pullsSince, memoryOf, bufferBefore, pulls, pullAnswer, presentAnswer, i2cAnswer}
 
 module _ (p : Part) (pins : ℕ) (first : List ℕ) (h : List Entry) where
   -- an event after the history h, whatever answer it is entered with
@@ -53,18 +53,18 @@ module _ (p : Part) (pins : ℕ) (m : List ℕ) (b : AddressBuffer) (ks : List C
   pulled = pullsSince p pins m b (after ks)
 
   -- the first byte is acknowledged after its eighth rise if it is an own word
-  pub word-acknowledged : nines ks ≡ [] → eighth (unfinished ks) ≡ true → pulled ≡ isOwn (wordOf p pins (number (unfinished ks)))
+  pub word-acknowledged : bytes ks ≡ [] → eighth (unfinished ks) ≡ true → pulled ≡ isOwn (wordOf p pins (number (unfinished ks)))
   word-acknowledged n e = rw (n, e)
 
   -- before it nothing is pulled
-  pub word-waits : nines ks ≡ [] → eighth (unfinished ks) ≡ false → pulled ≡ false
+  pub word-waits : bytes ks ≡ [] → eighth (unfinished ks) ≡ false → pulled ≡ false
   word-waits n e = rw (n, e)
 
   -- after an own write word every byte is acknowledged after its eighth rise, and nothing else is pulled
-  pub write-acknowledges : (word : Nine) (vs : List Nine) (a16 : Bool) → nines ks ≡ word ∷ vs → wordOf p pins (word .value) ≡ WriteWord a16
+  pub write-acknowledges : (word : Byte) (vs : List Byte) (a16 : Bool) → bytes ks ≡ word ∷ vs → wordOf p pins (word .value) ≡ WriteWord a16
       → pulled ≡ eighth (unfinished ks)
   write-acknowledges word vs a16 n w = rw (n, w)
 
   -- after another word nothing is pulled
-  pub other-waits : (word : Nine) (vs : List Nine) → nines ks ≡ word ∷ vs → wordOf p pins (word .value) ≡ OtherWord → pulled ≡ false
+  pub other-waits : (word : Byte) (vs : List Byte) → bytes ks ≡ word ∷ vs → wordOf p pins (word .value) ≡ OtherWord → pulled ≡ false
   other-waits word vs n w = rw (n, w)

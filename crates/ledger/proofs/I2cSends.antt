@@ -11,16 +11,17 @@ use lib.ListN.{length, getD}
 use borrow.Author.Tests.{ltb-false, lt-ltb}
 use Rattle.parts.specs.declared.part.Part.{Part}
 use Rattle.serial.specs.Address.{nextAddress}
+use Rattle.serial.specs.Bits.{bitAt}
 use Rattle.serial.proofs.AddressLaws.{next-within}
 use Rattle.i2c.specs.declared.buffer.AddressBuffer.{AddressBuffer}
 use Rattle.i2c.specs.declared.word.DeviceWord.the-variants.{ReadWord}
 use Rattle.i2c.specs.Buffer.{readAddress}
 use Rattle.i2c.specs.Word.{wordOf}
-use Rattle.ledger.specs.I2cLedger.{Clock}
-use Rattle.ledger.specs.I2cAnswers.{Nine, nines, unfinished, shownBit, showsLow, sendsLow, spanPulls}
+use Rattle.ledger.specs.I2cLedger.{Clock, Byte, bytes}
+use Rattle.ledger.specs.I2cAnswers.{unfinished, showsLow, sendsLow, spanPulls}
 
 -- each of the bytes asked for the next one
-abbrev pub AllLow : List Nine → Type 0
+abbrev pub AllLow : List Byte → Type 0
 AllLow [] = Unit {0}
 AllLow (v ∷ vs) = (v .ninth ≡ false) × AllLow vs
 
@@ -37,16 +38,16 @@ next-mod size a n h = by (ltb (a + 1) size) refl
         ap (λ (x : ℕ). x % size) r ∙ sym (ap (λ (x : ℕ). x % size) q ∙ add-mod-left size n)
 
 module _ (p : Part) (m : List ℕ) where
-  sends-up : (vs : List Nine) (a : ℕ) (bs : List Bool) → AllLow vs → a < p .size
+  sends-up : (vs : List Byte) (a : ℕ) (bs : List Bool) → AllLow vs → a < p .size
       → sendsLow p m a vs bs ≡ showsLow (getD m ((a + length vs) % p .size) 0) bs
   sends-up [] a bs l h = let q : a + 0 ≡ a = omega arith in rw (q, mod-eq-of-lt h)
   sends-up (v ∷ vs) a bs (l, ls) h =
       rw (l, sends-up vs (nextAddress (p .size) a) bs ls (next-within (p .size) a (omega arith)), next-mod (p .size) a (length vs) h)
 
   -- after an own read word and bytes that each asked for the next one, with k of the rises of a byte over
-  pub span-sends : (pins : ℕ) (b : AddressBuffer) (ks : List Clock) (word : Nine) (vs : List Nine) (a16 : Bool) → readAddress p b a16 < p .size
-      → nines ks ≡ word ∷ vs → wordOf p pins (word .value) ≡ ReadWord a16 → AllLow vs → length (unfinished ks) < 8
-      → spanPulls p pins m b (nines ks) (unfinished ks)
-      ≡ not (shownBit (getD m ((readAddress p b a16 + length vs) % p .size) 0) (length (unfinished ks)))
+  pub span-sends : (pins : ℕ) (b : AddressBuffer) (ks : List Clock) (word : Byte) (vs : List Byte) (a16 : Bool) → readAddress p b a16 < p .size
+      → bytes ks ≡ word ∷ vs → wordOf p pins (word .value) ≡ ReadWord a16 → AllLow vs → length (unfinished ks) < 8
+      → spanPulls p pins m b (bytes ks) (unfinished ks)
+      ≡ not (bitAt (getD m ((readAddress p b a16 + length vs) % p .size) 0) (length (unfinished ks)))
   span-sends pins b ks word vs a16 i n w l k =
       rw (n, w, sends-up vs (readAddress p b a16) (unfinished ks) l i, lt-ltb (length (unfinished ks)) 8 k)

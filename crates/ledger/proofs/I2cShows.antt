@@ -19,8 +19,8 @@ use Rattle.i2c.specs.Pull.{pullsAfter, ours}
 use Rattle.i2c.specs.Word.{wordOf}
 use Rattle.ledger.specs.Bits.{number}
 use Rattle.ledger.specs.Stores.{stored}
-use Rattle.ledger.specs.I2cLedger.{Clock, bytes, byWord, stores}
-use Rattle.ledger.specs.I2cAnswers.{Nine, nines, unfinished, usedAt, unusedAt, takenBuffer, writtenBuffer, sentBuffer, wordBuffer, spanBuffer, eighth, isOwn, sendsLow, wordPulls, spanPulls}
+use Rattle.ledger.specs.I2cLedger.{Clock, Byte, bytes, byWord, stores}
+use Rattle.ledger.specs.I2cAnswers.{unfinished, usedAt, unusedAt, takenBuffer, writtenBuffer, sentBuffer, wordBuffer, spanBuffer, eighth, isOwn, sendsLow, wordPulls, spanPulls}
 use Rattle.ledger.proofs.I2cReads.{Place, after}
 
 own-word : (w : DeviceWord) → ours w ≡ isOwn w
@@ -41,13 +41,13 @@ module _ (p : Part) (pins : ℕ) (m : List ℕ) where
   -- ---- bytes that go out
 
   abbrev SendingTold : List Clock → ℕ → AddressBuffer → Type 0
-  SendingTold ks a b = Told (after p pins (Sending a 0) b ks) (sendsLow p m a (nines ks) (unfinished ks)) (sentBuffer p b a (nines ks))
+  SendingTold ks a b = Told (after p pins (Sending a 0) b ks) (sendsLow p m a (bytes ks) (unfinished ks)) (sentBuffer p b a (bytes ks))
 
   -- the line at the ninth rise
   ninth-told : (ks : List Clock) (a : ℕ) (y : Bool) → SendingTold ks (nextAddress (p .size) a) (usedAt a)
       → Told (after p pins (cond y Deaf (Sending (nextAddress (p .size) a) 0)) (usedAt a) ks)
-      (cond y false (sendsLow p m (nextAddress (p .size) a) (nines ks) (unfinished ks)))
-      (cond y (usedAt a) (sentBuffer p (usedAt a) (nextAddress (p .size) a) (nines ks)))
+      (cond y false (sendsLow p m (nextAddress (p .size) a) (bytes ks) (unfinished ks)))
+      (cond y (usedAt a) (sentBuffer p (usedAt a) (nextAddress (p .size) a) (bytes ks)))
   ninth-told ks a true t = deaf-told (usedAt a) ks
   ninth-told ks a false t = t
 
@@ -67,13 +67,13 @@ module _ (p : Part) (pins : ℕ) (m : List ℕ) where
   -- ---- bytes that come in
 
   -- what is pulled and the buffer, when the next byte is this field
-  abbrev fieldPulls : Field → AddressBuffer → List Nine → List Bool → Bool
+  abbrev fieldPulls : Field → AddressBuffer → List Byte → List Bool → Bool
   fieldPulls Word b vs bs = spanPulls p pins m b vs bs
   fieldPulls (HighByte a16) b vs bs = eighth bs
   fieldPulls (LowByte a16 high) b vs bs = eighth bs
   fieldPulls (Data a) b vs bs = eighth bs
 
-  abbrev fieldLeft : Field → AddressBuffer → List Nine → AddressBuffer
+  abbrev fieldLeft : Field → AddressBuffer → List Byte → AddressBuffer
   fieldLeft Word b vs = spanBuffer p pins b vs
   fieldLeft (HighByte a16) b vs = writtenBuffer p b a16 vs
   fieldLeft (LowByte a16 high) b [] = b
@@ -81,7 +81,7 @@ module _ (p : Part) (pins : ℕ) (m : List ℕ) where
   fieldLeft (Data a) b vs = takenBuffer p b a vs
 
   abbrev FieldTold : List Clock → Field → AddressBuffer → Type 0
-  FieldTold ks f b = Told (after p pins (Taking f 0 0) b ks) (fieldPulls f b (nines ks) (unfinished ks)) (fieldLeft f b (nines ks))
+  FieldTold ks f b = Told (after p pins (Taking f 0 0) b ks) (fieldPulls f b (bytes ks) (unfinished ks)) (fieldLeft f b (bytes ks))
 
   -- fewer than eight rises, and eight
   few : (f : Field) (b : AddressBuffer) (n v : ℕ) (bs : List Bool) → ltb n 8 ≡ true → eighth bs ≡ false
@@ -98,7 +98,7 @@ module _ (p : Part) (pins : ℕ) (m : List ℕ) where
   eight (LowByte a16 high) b bs e = record { pull-is = rw e; buffer-is = refl }
   eight (Data a) b bs e = record { pull-is = rw e; buffer-is = refl }
 
-  after-high : (a16 : Bool) (high : Nine) (b : AddressBuffer) (vs : List Nine)
+  after-high : (a16 : Bool) (high : Byte) (b : AddressBuffer) (vs : List Byte)
       → fieldLeft (LowByte a16 (high .value)) b vs ≡ writtenBuffer p b a16 (high ∷ vs)
   after-high a16 high b [] = refl
   after-high a16 high b (low ∷ vs) = refl
@@ -106,16 +106,16 @@ module _ (p : Part) (pins : ℕ) (m : List ℕ) where
   -- a whole byte, given where the clocks after it lead
   module _ (ks : List Clock) (rest : (f : Field) (b : AddressBuffer) → FieldTold ks f b) where
     by-word : (b : AddressBuffer) (w : DeviceWord)
-        → Told (after p pins (begun p b w) b ks) (wordPulls p m b w (nines ks) (unfinished ks)) (wordBuffer p b w (nines ks))
+        → Told (after p pins (begun p b w) b ks) (wordPulls p m b w (bytes ks) (unfinished ks)) (wordBuffer p b w (bytes ks))
     by-word b (ReadWord a16) = sending-told ks (readAddress p b a16) b
     by-word b (WriteWord a16) = rest (HighByte a16) b
     by-word b OtherWord = deaf-told b ks
 
-    by-field : (f : Field) (b : AddressBuffer) (v : Nine)
-        → Told (after p pins (finished p pins b f (v .value)) (fieldBuffer p b f (v .value)) ks) (fieldPulls f b (v ∷ nines ks) (unfinished ks))
-        (fieldLeft f b (v ∷ nines ks))
+    by-field : (f : Field) (b : AddressBuffer) (v : Byte)
+        → Told (after p pins (finished p pins b f (v .value)) (fieldBuffer p b f (v .value)) ks) (fieldPulls f b (v ∷ bytes ks) (unfinished ks))
+        (fieldLeft f b (v ∷ bytes ks))
     by-field Word b v = by-word b (wordOf p pins (v .value))
-    by-field (HighByte a16) b v = rw (← after-high a16 v b (nines ks)) (rest (LowByte a16 (v .value)) b)
+    by-field (HighByte a16) b v = rw (← after-high a16 v b (bytes ks)) (rest (LowByte a16 (v .value)) b)
     by-field (LowByte a16 high) b v = rest (Data (joined p a16 high (v .value))) _
     by-field (Data a) b v = rest (Data (nextAddress (p .size) a)) _
 
@@ -134,19 +134,19 @@ module _ (p : Part) (pins : ℕ) (m : List ℕ) where
 
   -- a span pulls and leaves the buffer as the definitions say
   pub span-told : (b : AddressBuffer) (ks : List Clock)
-      → Told (after p pins (Taking Word 0 0) b ks) (spanPulls p pins m b (nines ks) (unfinished ks)) (spanBuffer p pins b (nines ks))
+      → Told (after p pins (Taking Word 0 0) b ks) (spanPulls p pins m b (bytes ks) (unfinished ks)) (spanBuffer p pins b (bytes ks))
   span-told b ks = field-told ks Word b
 
   -- ---- a span that sends does not write: with its stores the memory shows the same, also after falls earlier in it
 
   word-same : (b : AddressBuffer) (w : DeviceWord) (ks more : List Clock)
-      → wordPulls p (stored m (byWord p w (bytes (ks ++ more)))) b w (nines ks) (unfinished ks) ≡ wordPulls p m b w (nines ks) (unfinished ks)
+      → wordPulls p (stored m (byWord p w (bytes (ks ++ more)))) b w (bytes ks) (unfinished ks) ≡ wordPulls p m b w (bytes ks) (unfinished ks)
   word-same b (ReadWord a16) ks more = refl
   word-same b (WriteWord a16) ks more = refl
   word-same b OtherWord ks more = refl
 
   pub pull-same : (b : AddressBuffer) (ks more : List Clock)
-      → spanPulls p pins (stored m (stores p pins (bytes (ks ++ more)))) b (nines ks) (unfinished ks) ≡ spanPulls p pins m b (nines ks) (unfinished ks)
+      → spanPulls p pins (stored m (stores p pins (bytes (ks ++ more)))) b (bytes ks) (unfinished ks) ≡ spanPulls p pins m b (bytes ks) (unfinished ks)
   pull-same b [] more = refl
   pull-same b (a₁ ∷ []) more = refl
   pull-same b (a₁ ∷ a₂ ∷ []) more = refl

@@ -9,7 +9,7 @@ pub mod I2cSpans
 pub mod I2cShows
 pub mod I2cAnswers
 pub mod I2cSends
-pub mod I2cNines
+pub mod I2cRises
 pub mod I2cSays
 pub mod SpiSources
 pub mod SpiShows

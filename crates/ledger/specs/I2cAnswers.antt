@@ -1,12 +1,13 @@
 -- What an I2C part answers, read off the accepted events by starts: it pulls while it acknowledges a byte and while it shows a 0 of
 -- a byte that it sends. Histories have the latest first.
-use Prim.Native.Nat.{ℕ, _-_, _/_, _%_, _^_}
+use Prim.Native.Nat.{ℕ}
 use mathlib.Core.Bool.{Bool, true, false, cond, not, _&&_}
 use mathlib.Core.List.{List, [], _∷_}
 use lib.Dec.{eqb, ltb}
 use lib.ListN.{length, getD}
 use Rattle.parts.specs.declared.part.Part.{Part}
 use Rattle.serial.specs.Address.{nextAddress}
+use Rattle.serial.specs.Bits.{bitAt}
 use Rattle.trace.specs.declared.event.Event.{Event}
 use Rattle.trace.specs.declared.event.Event.the-variants.{SpiPowerOn, I2cPowerOn, PowerOff, Sample, Expected}
 use Rattle.i2c.specs.declared.buffer.AddressBuffer.{AddressBuffer}
@@ -20,31 +21,9 @@ use Rattle.i2c.specs.Word.{wordOf}
 use Rattle.ledger.specs.Bits.{number}
 use Rattle.ledger.specs.Stores.{stored}
 use Rattle.ledger.specs.History.{Entry}
-use Rattle.ledger.specs.I2cLedger.{Clock, Item, idle, span, Wires, wiresAt, edgeBetween, lastWires, items, writes}
+use Rattle.ledger.specs.I2cLedger.{Clock, Byte, bytes, Item, idle, span, Wires, wiresAt, edgeBetween, lastWires, items, writes}
 
--- ---- the rises of a span, nine to a byte
-
--- a whole byte: the number of its first eight lines, and the line at its ninth rise
-pub record Nine : Type 0 where
-  pub value : ℕ
-  pub ninth : Bool
-
-abbrev pub nines : List Clock → List Nine
-nines [] = []
-nines (a ∷ []) = []
-nines (a ∷ b ∷ []) = []
-nines (a ∷ b ∷ c ∷ []) = []
-nines (a ∷ b ∷ c ∷ d ∷ []) = []
-nines (a ∷ b ∷ c ∷ d ∷ e ∷ []) = []
-nines (a ∷ b ∷ c ∷ d ∷ e ∷ f ∷ []) = []
-nines (a ∷ b ∷ c ∷ d ∷ e ∷ f ∷ g ∷ []) = []
-nines (a ∷ b ∷ c ∷ d ∷ e ∷ f ∷ g ∷ h ∷ []) = []
-nines (a ∷ b ∷ c ∷ d ∷ e ∷ f ∷ g ∷ h ∷ ninth ∷ more) =
-    record {
-      value = number (a .line ∷ b .line ∷ c .line ∷ d .line ∷ e .line ∷ f .line ∷ g .line ∷ h .line ∷ []);
-      ninth = ninth .line;
-    }
-    ∷ nines more
+-- ---- the byte begun
 
 -- the lines at the rises after the last whole byte, at most eight
 abbrev pub unfinished : List Clock → List Bool
@@ -69,12 +48,12 @@ usedAt a = record { address = a; used = true }
 
 -- data bytes that come in from address a on: each one, stored or dropped, makes it "its address, used"; the address goes up and
 -- rolls over
-abbrev pub takenBuffer : Part → AddressBuffer → ℕ → List Nine → AddressBuffer
+abbrev pub takenBuffer : Part → AddressBuffer → ℕ → List Byte → AddressBuffer
 takenBuffer p b a [] = b
 takenBuffer p b a (v ∷ vs) = takenBuffer p (usedAt a) (nextAddress (p .size) a) vs
 
 -- after a write word two address bytes, of which the second makes it "n, unused", then data
-abbrev pub writtenBuffer : Part → AddressBuffer → Bool → List Nine → AddressBuffer
+abbrev pub writtenBuffer : Part → AddressBuffer → Bool → List Byte → AddressBuffer
 writtenBuffer p b a16 [] = b
 writtenBuffer p b a16 (high ∷ []) = b
 writtenBuffer p b a16 (high ∷ low ∷ vs) =
@@ -82,18 +61,18 @@ writtenBuffer p b a16 (high ∷ low ∷ vs) =
 
 -- bytes that go out from address a on: each one makes it "its address, used"; a low at the ninth rise asks for the next byte, high
 -- ends the transfer
-abbrev pub sentBuffer : Part → AddressBuffer → ℕ → List Nine → AddressBuffer
+abbrev pub sentBuffer : Part → AddressBuffer → ℕ → List Byte → AddressBuffer
 sentBuffer p b a [] = b
 sentBuffer p b a (v ∷ vs) = cond (v .ninth) (usedAt a) (sentBuffer p (usedAt a) (nextAddress (p .size) a) vs)
 
 -- a read word begins at the buffer's address, bit 16 replaced first, plus one and rolled over if used
-abbrev pub wordBuffer : Part → AddressBuffer → DeviceWord → List Nine → AddressBuffer
+abbrev pub wordBuffer : Part → AddressBuffer → DeviceWord → List Byte → AddressBuffer
 wordBuffer p b (ReadWord a16) vs = sentBuffer p b (readAddress p b a16) vs
 wordBuffer p b (WriteWord a16) vs = writtenBuffer p b a16 vs
 wordBuffer p b OtherWord vs = b
 
 -- from the buffer b at the START
-abbrev pub spanBuffer : Part → ℕ → AddressBuffer → List Nine → AddressBuffer
+abbrev pub spanBuffer : Part → ℕ → AddressBuffer → List Byte → AddressBuffer
 spanBuffer p pins b [] = b
 spanBuffer p pins b (word ∷ vs) = wordBuffer p b (wordOf p pins (word .value)) vs
 
@@ -108,27 +87,23 @@ isOwn (ReadWord a16) = true
 isOwn (WriteWord a16) = true
 isOwn OtherWord = false
 
--- most significant first: bit 7 - k of a byte
-abbrev pub shownBit : ℕ → ℕ → Bool
-shownBit v k = eqb (v / 2 ^ (7 - k) % 2) 1
-
 -- a byte that goes out shows bit 7 - k after k of its rises, k below 8, and pulls at a 0
 abbrev pub showsLow : ℕ → List Bool → Bool
-showsLow v bs = ltb (length bs) 8 && not (shownBit v (length bs))
+showsLow v bs = ltb (length bs) 8 && not (bitAt v (length bs))
 
 -- bytes of the memory m go out from address a up, rolled over, as long as the lines at the ninth rises are low
-abbrev pub sendsLow : Part → List ℕ → ℕ → List Nine → List Bool → Bool
+abbrev pub sendsLow : Part → List ℕ → ℕ → List Byte → List Bool → Bool
 sendsLow p m a [] bs = showsLow (getD m a 0) bs
 sendsLow p m a (v ∷ vs) bs = cond (v .ninth) false (sendsLow p m (nextAddress (p .size) a) vs bs)
 
 -- after a read word bytes go out; after a write word every byte is acknowledged; after another word nothing
-abbrev pub wordPulls : Part → List ℕ → AddressBuffer → DeviceWord → List Nine → List Bool → Bool
+abbrev pub wordPulls : Part → List ℕ → AddressBuffer → DeviceWord → List Byte → List Bool → Bool
 wordPulls p m b (ReadWord a16) vs bs = sendsLow p m (readAddress p b a16) vs bs
 wordPulls p m b (WriteWord a16) vs bs = eighth bs
 wordPulls p m b OtherWord vs bs = false
 
 -- an own word is acknowledged; b is the buffer at the START
-abbrev pub spanPulls : Part → ℕ → List ℕ → AddressBuffer → List Nine → List Bool → Bool
+abbrev pub spanPulls : Part → ℕ → List ℕ → AddressBuffer → List Byte → List Bool → Bool
 spanPulls p pins m b [] bs = eighth bs && isOwn (wordOf p pins (number bs))
 spanPulls p pins m b (word ∷ vs) bs = wordPulls p m b (wordOf p pins (word .value)) vs bs
 
@@ -138,7 +113,7 @@ spanPulls p pins m b (word ∷ vs) bs = wordPulls p m b (wordOf p pins (word .va
 abbrev pub openBuffer : Part → ℕ → AddressBuffer → List Item → AddressBuffer
 openBuffer p pins b [] = b
 openBuffer p pins b (idle ∷ is) = b
-openBuffer p pins b (span ks ∷ is) = spanBuffer p pins b (nines ks)
+openBuffer p pins b (span ks ∷ is) = spanBuffer p pins b (bytes ks)
 
 -- START and STOP begin with the buffer that was left
 abbrev pub carried : Edge → Part → ℕ → AddressBuffer → List Item → AddressBuffer
@@ -196,7 +171,7 @@ lastFall (e ∷ h) = fallAfter (e .event) (e .answer) (lastWires h) (items h) (l
 -- whether the part pulls since that fall, with the memory m and the buffer b at the START
 abbrev pub pullsSince : Part → ℕ → List ℕ → AddressBuffer → LastFall → Bool
 pullsSince p pins m b none = false
-pullsSince p pins m b (after ks) = spanPulls p pins m b (nines ks) (unfinished ks)
+pullsSince p pins m b (after ks) = spanPulls p pins m b (bytes ks) (unfinished ks)
 
 -- the ledger's memory
 abbrev pub memoryOf : Part → ℕ → List ℕ → List Entry → List ℕ

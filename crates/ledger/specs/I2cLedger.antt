@@ -88,9 +88,10 @@ items (e ∷ h) = itemsAfter (e .event) (e .answer) (lastWires h) (items h)
 
 -- ---- what the rises of a span say
 
--- a whole byte: its value, and WP at its ninth rise
+-- a whole byte: the number of its first eight lines, and line and WP at its ninth rise
 pub record Byte : Type 0 where
   pub value : ℕ
+  pub ninth : Bool
   pub wp : Bool
 
 -- bits are the lines at SCL rises, nine to a byte, whole at the ninth
@@ -107,6 +108,7 @@ bytes (a ∷ b ∷ c ∷ d ∷ e ∷ f ∷ g ∷ h ∷ []) = []
 bytes (a ∷ b ∷ c ∷ d ∷ e ∷ f ∷ g ∷ h ∷ ninth ∷ more) =
     record {
       value = number (a .line ∷ b .line ∷ c .line ∷ d .line ∷ e .line ∷ f .line ∷ g .line ∷ h .line ∷ []);
+      ninth = ninth .line;
       wp = ninth .wp;
     }
     ∷ bytes more

@@ -14,9 +14,10 @@ use Rattle.i2c.specs.Word.{wordOf}
 use Rattle.i2c.proofs.BufferLaws.{read-within}
 use Rattle.chip.specs.declared.model.Model.{Model}
 use Rattle.chip.proofs.CheckLaws.{model-in}
+use Rattle.serial.specs.Bits.{bitAt}
 use Rattle.ledger.specs.History.{Entry}
-use Rattle.ledger.specs.I2cLedger.{Clock}
-use Rattle.ledger.specs.I2cAnswers.{Nine, nines, unfinished, shownBit, after, lastFall, bufferBefore, memoryOf, pullAnswer, presentAnswer}
+use Rattle.ledger.specs.I2cLedger.{Clock, Byte, bytes}
+use Rattle.ledger.specs.I2cAnswers.{unfinished, after, lastFall, bufferBefore, memoryOf, pullAnswer, presentAnswer}
 use Rattle.ledger.proofs.I2cSends.{AllLow, span-sends}
 use Rattle.promise.specs.Lists.{memoryAfter}
 use Rattle.promise.specs.Promise.{madeBy, historyOf}
@@ -49,10 +50,10 @@ module _ (part pins bits : ℕ) (first : List ℕ) (es : List (List ℕ)) where
 
     -- SCL last fell after rises that make an own read word, then whole bytes vs that each asked for the next one, then k rises, k below
     -- 8: the answer is 0 exactly if bit 7 - k of the byte at the read address plus the number of vs, modulo the size, is 0; else 2
-    pub read-sends : (ks : List Clock) (word : Nine) (vs : List Nine) (a16 : Bool) → lastFall history ≡ after ks → nines ks ≡ word ∷ vs
+    pub read-sends : (ks : List Clock) (word : Byte) (vs : List Byte) (a16 : Bool) → lastFall history ≡ after ks → bytes ks ≡ word ∷ vs
         → wordOf row (made .pins) (word .value) ≡ ReadWord a16 → AllLow vs → length (unfinished ks) < 8
         → presentAnswer history
-        ≡ pullAnswer (not (shownBit (getD (memoryAfter made first es) ((from a16 + length vs) % row .size) 0) (length (unfinished ks))))
+        ≡ pullAnswer (not (bitAt (getD (memoryAfter made first es) ((from a16 + length vs) % row .size) 0) (length (unfinished ks))))
     read-sends ks word vs a16 q n w l k =
         list-present made first i2c (made-in part pins bits) (made-off part pins bits) es
         ∙ rw (q, memory-is)
