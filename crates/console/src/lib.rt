@@ -1,4 +1,6 @@
 // A program that runs the raw bytes of standard input on a part: reads, shows, prints.
+ghost use mathlib.Core.Path.{_≡_};
+ghost use Rattle.report.specs.Report.{memoryOf};
 use libc::STDIN_FILENO;
 use libc::STDOUT_FILENO;
 
@@ -10,7 +12,9 @@ pub fn serve(part: u32, memory: &mut [u8]) {
 }
 
 // The same for bytes at hand.
-pub fn print(part: u32, trace: &[u8], memory: &mut [u8]) {
+pub fn print(part: u32, trace: &[u8], memory: &mut [u8])
+    ensures { λ r. ⌜ now (memory .exit) ≡ memoryOf part (now (trace .entry)) (now (memory .entry)) ⌝ }
+{
     // 65,536 answers and 1,024 line ends: the longest text there is
     let mut out = [0u8; 66560];
     let report = report::show::show(part, trace, memory, &mut out);
