@@ -1,17 +1,15 @@
 -- What a state and a memory that pass the tests have: a part of the table, its pins, its memory, and a bus ready for the next
 -- sample; and that such a state passes. Assumes nothing.
 use Prim.Native.Nat.{ℕ, _<_}
-use mathlib.Core.Path.{_≡_, refl, sym, _∙_}
-use mathlib.Core.Bool.{Bool, true, false, cond, not, _&&_}
+use mathlib.Core.Path.{_≡_, refl}
+use mathlib.Core.Bool.{Bool, true, false, cond, not}
 use mathlib.Core.List.{List}
 use native.Mathlib.Omega.{arith}
 use lib.Dec.{ltb, eqb}
 use lib.ListN.{length}
-use borrow.Author.Tests.{ltb-true, eqb-true, lt-ltb, eq-eqb, not-true}
-use Rattle.parts.specs.declared.part.Part.{Part}
+use borrow.Author.Tests.{ltb-true, eqb-true, lt-ltb, eq-eqb}
 use Rattle.parts.specs.declared.refusal.Refusal.{Refusal}
 use Rattle.parts.specs.declared.refusal.Refusal.the-variants.{ModelRange, StateRange, MemoryLength}
-use Rattle.parts.specs.declared.status.Status.{Status}
 use Rattle.parts.specs.Table.{isSpi, partOf}
 use Rattle.parts.proofs.Rows.{and-both, part-fits}
 use Rattle.spi.specs.declared.sample.Spi as SpiState
@@ -22,10 +20,9 @@ use Rattle.i2c.specs.Sample as I2cSample
 use Rattle.i2c.proofs.RangeLaws as I2cRanges
 use Rattle.chip.specs.declared.check.Verdict.{Verdict}
 use Rattle.chip.specs.declared.check.Verdict.the-variants.{Passed, Failed}
-use Rattle.chip.specs.declared.model.BusState.{BusState}
-use Rattle.chip.specs.declared.model.BusState.the-variants.{Unpowered, SpiOn, I2cOn}
+use Rattle.chip.specs.declared.model.BusState.the-variants.{SpiOn, I2cOn}
 use Rattle.chip.specs.declared.model.Model.{Model}
-use Rattle.chip.specs.Check.{noBits, holdsBits, modelIn, i2cIn, busIn, checkOf}
+use Rattle.chip.specs.Check.{noBits, holdsBits, modelIn, busIn, checkOf}
 use Rattle.chip.specs.Event.{Sound}
 
 -- a test that passed, before others that would have failed with a refusal

@@ -1,11 +1,10 @@
 -- An event that suits the part keeps the tests passed: after it the state is in range and the memory has the part's size, for
 -- every part of the table. Part and pins stay. Assumes nothing.
-use Prim.Native.Nat.{ℕ, _<_}
-use mathlib.Core.Path.{_≡_, refl, sym, ap, _∙_}
-use mathlib.Core.Bool.{Bool, true, false, cond, not, _&&_}
+use Prim.Native.Nat.{ℕ}
+use mathlib.Core.Path.{_≡_, refl}
+use mathlib.Core.Bool.{Bool, true, false, cond, not}
 use mathlib.Core.List.{List}
-use lib.Dec.{ltb, eqb}
-use lib.ListN.{length}
+use lib.Dec.{eqb}
 use borrow.Author.Tests.{lt-ltb}
 use Rattle.parts.specs.declared.answer.Answer.{Answer}
 use Rattle.parts.specs.declared.part.Part.{Part}
@@ -34,11 +33,11 @@ use Rattle.i2c.proofs.RangeLaws as I2cRanges
 use Rattle.chip.specs.declared.model.BusState.{BusState}
 use Rattle.chip.specs.declared.model.BusState.the-variants.{Unpowered, SpiOn, I2cOn}
 use Rattle.chip.specs.declared.model.Model.{Model}
-use Rattle.chip.specs.Check.{noBits, holdsBits, i2cIn, busIn}
-use Rattle.chip.specs.Event.{accepted, refused, expected, poweredOff, onUnpowered, onSpi, onI2c, advanceOn, advanceOf, Sound}
+use Rattle.chip.specs.Check.{noBits}
+use Rattle.chip.specs.Event.{accepted, refused, expected, onUnpowered, onSpi, onI2c, advanceOn, advanceOf, Sound}
 use Rattle.chip.specs.Model.{modelOf, unpowered}
-use Rattle.chip.specs.Power.{atPower, spiStart, i2cStart, keptStatus}
-use Rattle.chip.proofs.CheckLaws.{ModelIn, SoundIn, sound-in, sound-test, spi-ready, i2c-ready}
+use Rattle.chip.specs.Power.{atPower, keptStatus}
+use Rattle.chip.proofs.CheckLaws.{SoundIn, sound-in, sound-test, spi-ready, i2c-ready}
 
 -- what is left of the register at power off is what the part may hold without power
 kept-bits : (y : Bool) (st : Status) (p : Part) → p .saved ≡ y → cond y true (noBits (keptStatus p st)) ≡ true

@@ -1,5 +1,4 @@
 -- The events other than samples of a part under power. They store nothing.
-use mathlib.Core.Path.{_≡_}
 use Rattle.parts.specs.declared.answer.Answer.{Answer}
 use Rattle.parts.specs.declared.part.Part.{Part}
 use Rattle.parts.specs.declared.refusal.Refusal.the-variants as R

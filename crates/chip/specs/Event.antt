@@ -1,16 +1,15 @@
 -- One event of a model whose state and memory passed 1 to 3, read as 4 to 6 want it.
 use Prim.Native.Nat.{ℕ}
 use mathlib.Core.Path.{_≡_}
-use mathlib.Core.Bool.{Bool, true, false, cond}
+use mathlib.Core.Bool.{false, cond}
 use mathlib.Core.List.{List}
 use lib.Dec.{eqb}
 use lib.ListN.{length}
 use Rattle.parts.specs.declared.answer.Answer.{Answer}
-use Rattle.parts.specs.declared.answer.Answer.the-variants.{Low, High, HighZ}
+use Rattle.parts.specs.declared.answer.Answer.the-variants.{HighZ}
 use Rattle.parts.specs.declared.part.Part.{Part}
 use Rattle.parts.specs.declared.refusal.Refusal.{Refusal}
 use Rattle.parts.specs.declared.refusal.Refusal.the-variants as R
-use Rattle.parts.specs.declared.status.Status.{Status}
 use Rattle.parts.specs.Numbers.{answerNumber, refusalNumber}
 use Rattle.parts.specs.Status.{withWel}
 use Rattle.parts.specs.Table.{partOf}
@@ -24,7 +23,7 @@ use Rattle.spi.specs.Show as SpiShow
 use Rattle.i2c.specs.declared.sample.I2c as I2cState
 use Rattle.i2c.specs.Levels as I2cLevels
 use Rattle.i2c.specs.Sample as I2cSample
-use Rattle.chip.specs.declared.check.Verdict.the-variants.{Passed, Failed}
+use Rattle.chip.specs.declared.check.Verdict.the-variants.{Passed}
 use Rattle.chip.specs.declared.event.Answered.{Answered}
 use Rattle.chip.specs.declared.model.BusState.{BusState}
 use Rattle.chip.specs.declared.model.BusState.the-variants.{Unpowered, SpiOn, I2cOn}

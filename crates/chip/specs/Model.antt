@@ -2,7 +2,7 @@
 use Prim.Native.Nat.{ℕ}
 use Rattle.parts.specs.declared.status.Status.{Status}
 use Rattle.chip.specs.declared.model.BusState.{BusState}
-use Rattle.chip.specs.declared.model.BusState.the-variants.{Unpowered, SpiOn, I2cOn}
+use Rattle.chip.specs.declared.model.BusState.the-variants.{Unpowered}
 use Rattle.chip.specs.declared.model.Model.{Model}
 
 abbrev pub modelOf : ℕ → ℕ → Status → BusState → Model

@@ -1,10 +1,10 @@
 -- The bytes of a number stored one after another, and two numbers in sixteen bytes. Assumes nothing.
 use Prim.Native.Nat.{ℕ, zero, suc, _+_, _-_, _<_}
-use mathlib.Core.Path.{_≡_, refl, sym, ap, _∙_}
-use mathlib.Core.List.{List, [], _∷_, _++_, append-nil}
+use mathlib.Core.Path.{_≡_, sym, ap, _∙_}
+use mathlib.Core.List.{List, _++_}
 use native.Mathlib.Numerals.{add-one}
 use native.Mathlib.Omega.{arith}
-use lib.ListN.{length, set, drop, take, length-drop}
+use lib.ListN.{length, set, drop}
 use lib.Seq.{sets, sets-eq, drop-length}
 use Rattle.model.proofs.SetsLaws.{sets-append}
 use Rattle.harness.specs.Result.{byteOf, bytesOf}

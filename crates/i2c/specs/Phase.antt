@@ -1,6 +1,6 @@
 -- What a rise of SCL makes of the phase. Eight bits make a byte; the ninth clock acknowledges.
 use Prim.Native.Nat.{ℕ, _+_}
-use mathlib.Core.Bool.{Bool, true, false, cond}
+use mathlib.Core.Bool.{Bool, cond}
 use lib.Dec.{ltb}
 use Rattle.parts.specs.declared.part.Part.{Part}
 use Rattle.serial.specs.Bits.{shifted}

@@ -5,17 +5,17 @@ use mathlib.Core.Bool.{Bool, true, false}
 use mathlib.Core.List.{List}
 use lib.ListN.{length}
 use Rattle.parts.specs.declared.answer.Answer.{Answer}
-use Rattle.parts.specs.declared.answer.Answer.the-variants.{Low, High, HighZ}
+use Rattle.parts.specs.declared.answer.Answer.the-variants.{Low, HighZ}
 use Rattle.parts.specs.declared.part.Part.{Part}
 use Rattle.serial.specs.declared.write.Write.{Write}
-use Rattle.serial.specs.declared.write.Write.the-variants.{Nothing, Byte}
+use Rattle.serial.specs.declared.write.Write.the-variants.{Nothing}
 use Rattle.i2c.specs.declared.levels.Levels.{Levels}
 use Rattle.i2c.specs.declared.edge.Edge.{Edge}
 use Rattle.i2c.specs.declared.edge.Edge.the-variants.{Start, Stop, Rise, Fall, Quiet}
 use Rattle.i2c.specs.declared.buffer.AddressBuffer.{AddressBuffer}
-use Rattle.i2c.specs.declared.phase.Field.the-variants.{Word, HighByte, LowByte, Data}
+use Rattle.i2c.specs.declared.phase.Field.the-variants.{Word}
 use Rattle.i2c.specs.declared.phase.Phase.{Phase}
-use Rattle.i2c.specs.declared.phase.Phase.the-variants.{Rest, Deaf, Taking, Sending}
+use Rattle.i2c.specs.declared.phase.Phase.the-variants.{Rest, Taking}
 use Rattle.i2c.specs.declared.sample.I2c.{I2c}
 use Rattle.i2c.specs.Edge.{edgeOf}
 use Rattle.i2c.specs.Phase.{afterRise}

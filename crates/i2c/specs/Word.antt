@@ -1,7 +1,7 @@
 -- The word is 1010, then A2 A1 A0 (part 3) or A2 A1 A16 (part 4), then R/W. Another word, 00001xxx of HS mode and F8h included
 -- (F8h: house, as sleep is left out), is not the part's.
 use Prim.Native.Nat.{ℕ, _+_, _/_, _%_}
-use mathlib.Core.Bool.{Bool, true, false, cond, _&&_}
+use mathlib.Core.Bool.{Bool, false, cond}
 use lib.Dec.{eqb}
 use Rattle.parts.specs.declared.part.Part.{Part}
 use Rattle.i2c.specs.declared.word.DeviceWord.{DeviceWord}

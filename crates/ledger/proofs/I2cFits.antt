@@ -2,9 +2,8 @@
 -- reads off its span. Assumes nothing.
 use Prim.Native.Nat.{ℕ}
 use mathlib.Core.Path.{_≡_, refl}
-use mathlib.Core.Bool.{Bool, true, false, not, _&&_}
+use mathlib.Core.Bool.{Bool, true, false}
 use mathlib.Core.List.{List, [], _∷_, _++_, append-nil, append-assoc}
-use lib.Dec.{eqb}
 use Rattle.parts.specs.declared.part.Part.{Part}
 use Rattle.parts.specs.Numbers.{answerNumber}
 use Rattle.serial.specs.Write.{applied}

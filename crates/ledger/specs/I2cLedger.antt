@@ -1,7 +1,7 @@
 -- The ledger of an I2C part: permitted writes, read off the accepted events and their answers by starts.
 -- Histories and lists of items have the latest first.
 use Prim.Native.Nat.{ℕ}
-use mathlib.Core.Bool.{Bool, true, false, cond, not, _&&_}
+use mathlib.Core.Bool.{Bool, false, cond, not, _&&_}
 use mathlib.Core.List.{List, [], _∷_, _++_}
 use lib.Dec.{eqb}
 use Rattle.parts.specs.declared.part.Part.{Part}

@@ -1,8 +1,8 @@
 -- One event on a state and a memory that passed 1 to 3: what is read decides. Assumes nothing.
 use Prim.Native.Nat.{ℕ}
-use mathlib.Core.Path.{_≡_, refl, sym}
+use mathlib.Core.Path.{_≡_, refl}
 use mathlib.Core.List.{List}
-use lib.ListN.{length, getD}
+use lib.ListN.{getD}
 use Rattle.parts.specs.declared.refusal.Refusal.{Refusal}
 use Rattle.parts.specs.Table.{partOf}
 use Rattle.trace.specs.declared.event.Event.{Event}

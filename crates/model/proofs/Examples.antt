@@ -1,7 +1,7 @@
 -- The worked examples 1 to 11 of document 01, by one statement over one list: each is a making, first bytes, a trace whose own events
 -- of kind 05 say what the part must answer, and cells that the memory must then hold. Computed. Assumes nothing.
 use Prim.Native.Nat.{ℕ, zero, suc, _+_, _*_}
-use mathlib.Core.Bool.{Bool, true, false, _&&_}
+use mathlib.Core.Bool.{Bool, true, _&&_}
 use mathlib.Core.List.{List, [], _∷_, _++_}
 use lib.Dec.{eqb, T}
 use lib.ListN.{getD, replicate, set}

@@ -1,9 +1,9 @@
 -- The run rule: a run of j events, then one of k on the rest, equals one run of j + k, counts and offsets added, if the first is
 -- not refused. From the laws of a run, by induction on j. Assumes nothing.
 use Prim.Native.Nat.{ℕ, zero, suc, _+_}
-use mathlib.Core.Path.{_≡_, refl, sym, ap, _∙_}
+use mathlib.Core.Path.{_≡_, refl, sym, _∙_}
 use mathlib.Core.Bool.{Bool, true, false}
-use mathlib.Core.List.{List, [], _∷_, _++_}
+use mathlib.Core.List.{List, _++_}
 use native.Mathlib.Nat.{zero-add, add-assoc, suc-add}
 use lib.Dec.{eqb}
 use lib.ListN.{length, drop}

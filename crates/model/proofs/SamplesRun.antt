@@ -3,10 +3,10 @@
 use Prim.Native.Nat.{ℕ, zero, suc, _+_, _-_, _<_, _≤_}
 use mathlib.Core.Path.{_≡_, refl, sym, ap, _∙_}
 use mathlib.Core.Bool.{Bool, true, false}
-use mathlib.Core.List.{List, [], _∷_, _++_}
+use mathlib.Core.List.{List, _++_}
 use native.Mathlib.Nat.{zero-add, add-assoc, sub-zero}
 use native.Mathlib.Omega.{arith}
-use lib.ListN.{length, drop, getD, length-drop}
+use lib.ListN.{length, drop, length-drop}
 use lib.Seq.{drop-drop, sets}
 use Rattle.parts.specs.declared.part.Part.{Part}
 use Rattle.parts.specs.Table.{partOf}
@@ -25,7 +25,6 @@ use Rattle.samples.specs.declared.reached.Reached.{Reached}
 use Rattle.samples.specs.Samples.{Samples, none, one, staysOn, firstDone, samplesOf, reachedBy}
 use Rattle.samples.proofs.NextLaws.{next-read, next-apart, next-accepted}
 use Rattle.samples.proofs.SamplesLaws.{samples-zero, samples-none, samples-one}
-use Rattle.model.specs.Event.{eventOf}
 use Rattle.model.specs.Run.{Run, after, loopOf}
 use Rattle.model.proofs.EventLaws.{event-whole, event-taken, event-keeps}
 use Rattle.model.proofs.RunLaws.{Final, final, loop-accepted}

@@ -1,12 +1,12 @@
 -- One event that was read, by the samples and expected answers at the front of its bytes, of which at most one is taken. Assumes
 -- nothing.
-use Prim.Native.Nat.{ℕ, _+_, _<_}
+use Prim.Native.Nat.{ℕ, _<_}
 use mathlib.Core.Path.{_≡_, refl, sym, ap, _∙_}
 use mathlib.Core.Bool.{Bool, true, false}
-use mathlib.Core.List.{List, [], _∷_}
+use mathlib.Core.List.{List}
 use native.Mathlib.Nat.{zero-add}
 use native.Mathlib.Omega.{arith}
-use lib.ListN.{length, drop, getD, set}
+use lib.ListN.{length, drop, getD}
 use lib.Seq.{sets, getD-set-same}
 use Rattle.parts.specs.declared.part.Part.{Part}
 use Rattle.parts.specs.Table.{partOf}
@@ -17,7 +17,7 @@ use Rattle.trace.specs.Read.{readOf}
 use Rattle.chip.specs.declared.event.Answered.{Answered}
 use Rattle.chip.specs.declared.model.Model.{Model}
 use Rattle.chip.specs.Apart.{apartOf}
-use Rattle.chip.specs.Event.{Outcome, Sound, keeping, advanceOf}
+use Rattle.chip.specs.Event.{Sound, advanceOf}
 use Rattle.chip.proofs.ApartLaws.{apart-advance}
 use Rattle.samples.specs.declared.reached.Reached.{Reached}
 use Rattle.samples.specs.Samples.{Samples, none, one, staysOn, firstDone, samplesOf, reachedBy}

@@ -1,6 +1,6 @@
 -- A model is made, unpowered, from a part number, address pins and saved bits.
 use Prim.Native.Nat.{ℕ, _/_, _%_}
-use mathlib.Core.Bool.{Bool, true, false, cond, _&&_}
+use mathlib.Core.Bool.{Bool, false, cond, _&&_}
 use lib.Dec.{ltb, eqb}
 use Rattle.parts.specs.declared.part.Part.{Part}
 use Rattle.parts.specs.declared.refusal.Refusal.the-variants.{ModelRange}
@@ -8,7 +8,6 @@ use Rattle.parts.specs.declared.status.Status.{Status}
 use Rattle.parts.specs.Numbers.{refusalNumber}
 use Rattle.parts.specs.Status.{cleared}
 use Rattle.parts.specs.Table.{partOf}
-use Rattle.chip.specs.declared.model.Model.{Model}
 use Rattle.chip.specs.Model.{unpowered}
 use Rattle.model.specs.declared.make.Made.{Made}
 

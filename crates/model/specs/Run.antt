@@ -1,6 +1,6 @@
 -- Trace runs take an event quota. A run stops when the quota is used, the trace ends or an event is refused.
 use Prim.Native.Nat.{ℕ, zero, suc, _+_}
-use mathlib.Core.Bool.{Bool, true, false, cond}
+use mathlib.Core.Bool.{cond}
 use mathlib.Core.List.{List, [], _∷_}
 use lib.Dec.{eqb}
 use lib.ListN.{length, drop, getD}
@@ -12,7 +12,6 @@ use Rattle.chip.specs.declared.check.Verdict.{Verdict}
 use Rattle.chip.specs.declared.check.Verdict.the-variants.{Passed, Failed}
 use Rattle.chip.specs.declared.model.Model.{Model}
 use Rattle.chip.specs.Check.{checkOf}
-use Rattle.chip.specs.Event.{Outcome}
 use Rattle.model.specs.declared.run.Ran.{Ran}
 use Rattle.model.specs.Event.{eventOf}
 

@@ -1,6 +1,6 @@
 -- The rules of the table, shown for every row at once: one test that is computed over the list of rows, and the law that
 -- turns a test passed by every row into the rule at each part number. Assumes nothing.
-use Prim.Native.Nat.{ℕ, zero, suc, _<_, _≤_, _^_, _%_}
+use Prim.Native.Nat.{ℕ, zero, suc, _<_, _^_, _%_}
 use mathlib.Core.Path.{_≡_, refl}
 use mathlib.Core.Bool.{Bool, true, false, cond, _&&_}
 use mathlib.Core.List.{List, [], _∷_}

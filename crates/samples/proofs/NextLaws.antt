@@ -2,7 +2,7 @@
 -- event. Assumes nothing.
 use Prim.Native.Nat.{ℕ, _<_}
 use mathlib.Core.Path.{_≡_, refl, sym, _∙_}
-use mathlib.Core.Bool.{Bool, true, false, not, _&&_}
+use mathlib.Core.Bool.{Bool, true, false, not}
 use mathlib.Core.List.{List}
 use mathlib.Core.Logic.{_⊎_, ⊎-elim}
 use native.Mathlib.Omega.{arith}
@@ -11,7 +11,6 @@ use Rattle.parts.specs.declared.answer.Answer.{Answer}
 use Rattle.parts.specs.declared.answer.Answer.the-variants.{Low, High, HighZ}
 use Rattle.parts.specs.declared.part.Bus.{Bus}
 use Rattle.parts.specs.declared.part.Bus.the-variants.{Spi, I2c}
-use Rattle.parts.specs.declared.part.Part.{Part}
 use Rattle.parts.specs.Numbers.{answerNumber}
 use Rattle.parts.specs.Table.{isSpi, partOf}
 use Rattle.parts.proofs.Rows.{and-both}

@@ -2,8 +2,8 @@
 use Prim.Native.Nat.{ℕ, zero, suc, _+_, _-_, _<_, _≤_}
 use mathlib.Core.Path.{_≡_, refl, sym, ap, _∙_}
 use mathlib.Core.Bool.{Bool, true, false, cond}
-use mathlib.Core.List.{List, [], _∷_}
-use native.Mathlib.Nat.{add-zero, add-assoc, zero-add}
+use mathlib.Core.List.{List}
+use native.Mathlib.Nat.{add-zero, add-assoc}
 use native.Mathlib.Numerals.{add-one}
 use native.Mathlib.Omega.{arith}
 use lib.Dec.{eqb, ltb}
@@ -12,15 +12,13 @@ use lib.Seq.{drop-drop, take-all, sets, getD-drop}
 use borrow.Author.Tests.{ltb-true, ltb-false, lt-ltb, le-ltb, ne-eqb}
 use Rattle.parts.specs.declared.part.Part.{Part}
 use Rattle.parts.specs.Table.{partOf}
-use Rattle.trace.specs.declared.event.Event.{Event}
 use Rattle.trace.specs.declared.event.Event.the-variants.{Sample, Expected}
 use Rattle.trace.specs.Sample.{sampleFirst, expectedFirst, staysFirst, firstEvent}
 use Rattle.trace.proofs.SampleLaws.{stays-long}
 use Rattle.trace.proofs.SuitLaws.{Suits}
-use Rattle.chip.specs.declared.event.Answered.{Answered}
 use Rattle.chip.specs.declared.model.BusState.the-variants.{Unpowered}
 use Rattle.chip.specs.declared.model.Model.{Model}
-use Rattle.chip.specs.Event.{Outcome, Sound, advanceOf}
+use Rattle.chip.specs.Event.{Outcome, Sound}
 use Rattle.chip.proofs.Keeps.{keeps}
 use Rattle.samples.specs.declared.reached.Reached.{Reached}
 use Rattle.samples.specs.Samples.{Samples, none, one, staysOn, firstDone, samplesOf, reached, reachedBy, nextIs, firstSample}

@@ -1,7 +1,7 @@
 -- Every sample keeps the ranges of the phase and the memory's length, and writes within the memory: for every part that fits,
 -- over its size and address width. Assumes nothing.
-use Prim.Native.Nat.{ℕ, _+_, _^_, _<_, _≤_}
-use mathlib.Core.Path.{_≡_, refl, sym, _∙_, subst}
+use Prim.Native.Nat.{ℕ, _+_, _<_}
+use mathlib.Core.Path.{_≡_, refl, _∙_}
 use mathlib.Core.Bool.{Bool, true, false, cond, _&&_}
 use mathlib.Core.List.{List}
 use native.Mathlib.Omega.{arith}
@@ -13,7 +13,6 @@ use Rattle.parts.specs.declared.part.Part.{Part}
 use Rattle.parts.specs.declared.status.Status.{Status}
 use Rattle.parts.specs.Status.{protectedStart}
 use Rattle.parts.specs.Table.{Fit}
-use Rattle.serial.specs.declared.write.Write.{Write}
 use Rattle.serial.specs.declared.write.Write.the-variants.{Nothing, Byte}
 use Rattle.serial.specs.Bits.{shifted}
 use Rattle.serial.specs.Write.{applied, Within}

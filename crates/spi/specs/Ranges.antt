@@ -1,6 +1,6 @@
 -- What the numbers of a phase may be: as a proposition, and as the test of the same.
 use Prim.Native.Nat.{ℕ, _^_, _<_, _≤_}
-use mathlib.Core.Bool.{Bool, true, false, _&&_}
+use mathlib.Core.Bool.{Bool, true, _&&_}
 use lib.Dec.{ltb, leb}
 use Rattle.parts.specs.declared.part.Part.{Part}
 use Rattle.spi.specs.declared.phase.Field.{Field}

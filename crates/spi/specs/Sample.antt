@@ -5,18 +5,18 @@ use mathlib.Core.Bool.{Bool, true, false}
 use mathlib.Core.List.{List}
 use lib.ListN.{length}
 use Rattle.parts.specs.declared.answer.Answer.{Answer}
-use Rattle.parts.specs.declared.answer.Answer.the-variants.{Low, High, HighZ}
+use Rattle.parts.specs.declared.answer.Answer.the-variants.{HighZ}
 use Rattle.parts.specs.declared.part.Part.{Part}
 use Rattle.parts.specs.declared.status.Status.{Status}
 use Rattle.parts.specs.Table.{Fit}
 use Rattle.serial.specs.declared.write.Write.{Write}
-use Rattle.serial.specs.declared.write.Write.the-variants.{Nothing, Byte}
+use Rattle.serial.specs.declared.write.Write.the-variants.{Nothing}
 use Rattle.spi.specs.declared.levels.Levels.{Levels}
 use Rattle.spi.specs.declared.edge.Edge.{Edge}
 use Rattle.spi.specs.declared.edge.Edge.the-variants.{Select, Deselect, Rise, Fall, Quiet}
-use Rattle.spi.specs.declared.phase.Field.the-variants.{Opcode, ReadAddress, FastAddress, WriteAddress, Dummy, Data, StatusByte}
+use Rattle.spi.specs.declared.phase.Field.the-variants.{Opcode}
 use Rattle.spi.specs.declared.phase.Phase.{Phase}
-use Rattle.spi.specs.declared.phase.Phase.the-variants.{Rest, Deaf, Taking, Showing, Waiting}
+use Rattle.spi.specs.declared.phase.Phase.the-variants.{Rest, Deaf, Taking}
 use Rattle.spi.specs.declared.sample.Spi.{Spi}
 use Rattle.spi.specs.Edge.{edgeOf}
 use Rattle.spi.specs.Phase.{afterRise}

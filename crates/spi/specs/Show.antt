@@ -6,7 +6,7 @@ use mathlib.Core.List.{List}
 use lib.Dec.{ltb}
 use lib.ListN.{getD}
 use Rattle.parts.specs.declared.answer.Answer.{Answer}
-use Rattle.parts.specs.declared.answer.Answer.the-variants.{Low, High, HighZ}
+use Rattle.parts.specs.declared.answer.Answer.the-variants.{HighZ}
 use Rattle.parts.specs.declared.part.Part.{Part}
 use Rattle.parts.specs.declared.status.Status.{Status}
 use Rattle.parts.specs.Numbers.{levelOf}

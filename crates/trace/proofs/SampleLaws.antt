@@ -14,7 +14,7 @@ use Rattle.trace.specs.declared.event.Event.{Event}
 use Rattle.trace.specs.declared.event.Event.the-variants.{SpiPowerOn, I2cPowerOn, PowerOff, Sample, Expected}
 use Rattle.trace.specs.declared.read.Read.the-variants.{Whole}
 use Rattle.trace.specs.Event.{sampleLimit, fieldsIn}
-use Rattle.trace.specs.Read.{startAddress, eventOf, readOf}
+use Rattle.trace.specs.Read.{startAddress, readOf}
 use Rattle.trace.specs.Sample.{sampleFirst, expectedFirst, staysFirst, firstEvent}
 use Rattle.trace.proofs.ReadLaws.{passed, reads-whole}
 

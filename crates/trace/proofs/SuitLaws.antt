@@ -1,7 +1,7 @@
 -- An event that was read suits the part: a power on is of its bus, and a start address lies within its size. Assumes nothing.
 use Prim.Native.Nat.{ℕ, _<_}
-use mathlib.Core.Path.{_≡_, refl}
-use mathlib.Core.Bool.{Bool, true, false, cond, not, _&&_}
+use mathlib.Core.Path.{_≡_}
+use mathlib.Core.Bool.{Bool, true, false, cond, not}
 use mathlib.Core.List.{List}
 use lib.Dec.{eqb, ltb}
 use lib.ListN.{getD}
@@ -13,7 +13,7 @@ use Rattle.trace.specs.declared.event.Event.{Event}
 use Rattle.trace.specs.declared.event.Event.the-variants.{SpiPowerOn, I2cPowerOn, PowerOff, Sample, Expected}
 use Rattle.trace.specs.declared.read.Read.the-variants.{Whole}
 use Rattle.trace.specs.Event.{sampleLimit, fieldsIn}
-use Rattle.trace.specs.Read.{startAddress, eventOf, readOf}
+use Rattle.trace.specs.Read.{startAddress, readOf}
 use Rattle.trace.proofs.ReadLaws.{passed}
 
 abbrev pub Suits : Part → Event → Type 0

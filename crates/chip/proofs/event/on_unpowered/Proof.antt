@@ -2,7 +2,6 @@
 use borrow.Author.Needs.{needs}
 use Rattle.chip.proofs.event.on_unpowered.Statement.{statement}
 use Rattle.chip.proofs.event.on_unpowered.Tie as tie
-use Rattle.spi.proofs.levels.levels_of.Reads as levels-levels-of-reads′
 
 returns : tie.Need-returns
 returns c = simp (c .power-on .ensures, c .before .spi-start .ensures, c .before .before .levels-of .ensures, c .before .before .before .before .event .given .1)

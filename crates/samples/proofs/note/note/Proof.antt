@@ -1,6 +1,6 @@
 -- `note` meets its contract: past the end nothing is stored. Assumes nothing.
 use lib.Seq.{set-out}
-use mathlib.Core.Path.{sym, _∙_}
+use mathlib.Core.Path.{sym}
 use borrow.Author.Needs.{needs}
 use Rattle.samples.proofs.note.note.Statement.{statement}
 use Rattle.samples.proofs.note.note.Tie as tie

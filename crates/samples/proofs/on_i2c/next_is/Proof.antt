@@ -1,5 +1,5 @@
 -- `next_is` meets its contract: the slice from offset on is the trace without its first bytes. Assumes nothing.
-use mathlib.Core.Path.{sym, _∙_}
+use mathlib.Core.Path.{sym}
 use lib.ListN.{drop}
 use Rattle.parts.specs.Numbers.{answerNumber}
 use Rattle.i2c.specs.Sample.{answerOf}

@@ -1,10 +1,6 @@
 -- `first_sample` meets its contract, by the kind. Assumes nothing.
-use mathlib.Core.Path.{_≡_, refl, sym, _∙_}
-use Prim.Native.Nat.{ℕ, _+_}
+use mathlib.Core.Path.{sym}
 use native.Mathlib.Omega.{arith}
-use native.Mathlib.Nat.{add-zero}
-use lib.ListN.{length, drop, getD}
-use lib.Seq.{getD-drop}
 use Rattle.samples.proofs.SamplesLaws.{first-4, first-other}
 use borrow.Author.Needs.{needs}
 use Rattle.samples.proofs.reached.first_sample.Statement.{statement}
