@@ -12,7 +12,8 @@ use Rattle.chip.specs.declared.model.BusState.the-variants.{Unpowered, S
 use Rattle.chip.specs.declared.model.Model.{Model}
 use Rattle.chip.specs.Event.{refused, expected, poweredOff, onUnpowered}
 
--- with the answer that the part gives at present; a sample is not asked here
+-- with the answer that the part gives at present. Of a sample this is not asked, and what it says of one is no rule: it takes part
+-- in no contract of an entry point (`Apart` in proofs/ApartLaws.antt)
 abbrev pub underPower : Part → Model → Answer → Event → Answered
 underPower p s a (SpiPowerOn v) = refused R.Powered s
 underPower p s a (I2cPowerOn v start) = refused R.Powered s

@@ -108,6 +108,7 @@ fn under_power(part: Part, model: Model, present: Answer, event: Event) -> Answe
             start: _,
         } => refuse(Refusal::Powered, model),
         Event::PowerOff => power_off(part, model),
+        // not asked: samples under power are taken in the loops of `samples`
         Event::Sample { sample: _ } => refuse(Refusal::Unpowered, model),
         Event::Expected { answer } => expect(model, present, answer),
     }

@@ -1,4 +1,4 @@
-// A model's state, what is tested of it, and one event of a state that passed.
+// A model's state, what is tested of it, and the events other than samples under power.
 pub mod check;
 pub mod event;
 pub mod model;

@@ -1,7 +1,6 @@
 // Two numbers as sixteen bytes.
 ghost use mathlib.Core.Path.{_≡_};
 ghost use Prim.Native.Nat.{_≤_, _<_};
-ghost use lib.ListN.{length};
 ghost use lib.Seq.{sets};
 ghost use Rattle.harness.specs.Result.{byteOf, bytesOf, resultIn};
 

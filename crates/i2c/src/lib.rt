@@ -1,4 +1,4 @@
-// One sample of an I2C part.
+// The rules of one sample of an I2C part.
 pub mod buffer;
 pub mod edge;
 pub mod levels;

@@ -1,6 +1,6 @@
 // What a rise of SCL makes of the phase.
 ghost use mathlib.Core.Path.{_≡_};
-ghost use Prim.Native.Nat.{_<_, _≤_, _^_};
+ghost use Prim.Native.Nat.{_<_};
 ghost use Rattle.parts.specs.Table.{Fit};
 ghost use Rattle.i2c.specs.Phase.{begun, finished, afterTaken, afterSent, afterRise};
 ghost use Rattle.i2c.specs.Ranges.{FieldIn, PhaseIn, Placed};

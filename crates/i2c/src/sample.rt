@@ -1,4 +1,4 @@
-// What an I2C part under power keeps between samples.
+// An I2C part under power.
 ghost use mathlib.Core.Path.{_≡_};
 ghost use Rattle.i2c.specs.Sample.{answerOf};
 use crate::buffer::AddressBuffer;
@@ -6,6 +6,7 @@ use crate::levels::Levels;
 use crate::phase::Phase;
 use parts::answer::Answer;
 
+// What it keeps between samples.
 pub struct I2c {
     // the levels of the last sample
     pub last: Levels,

@@ -30,7 +30,7 @@ use Rattle.model.proofs.EventLaws.{event-whole, event-taken, event-keep
 use Rattle.model.proofs.RunLaws.{Final, final, loop-accepted}
 use Rattle.model.proofs.SetsLaws.{sets-append}
 
--- samples, then a run: counts and offsets added, answers put together
+-- consecutive samples and expected answers, then a run: counts and offsets added, answers put together
 abbrev pub before : Samples → Run → Run
 before r u =
     record {

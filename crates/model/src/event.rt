@@ -12,7 +12,7 @@ use parts::part::Part;
 use trace::event::Event;
 use trace::read::Read;
 
-// An event that was read from these bytes: a sample of a part under power, or one of the others.
+// An event that was read from these bytes: of a part under power a sample or an expected answer that holds, or another event.
 fn take(
     part: Part,
     model: Model,

@@ -42,7 +42,7 @@ module _ (t : List ℕ) (s : Model) (m : List ℕ) where
   unfolding samplesOf
   samples-one q h = rw h
 
--- ---- samples that have got so far
+-- ---- those that have got so far
 
 -- all that they give back
 pub record End : Type 0 where
@@ -53,7 +53,7 @@ pub record End : Type 0 where
 abbrev pub endOf : Reached → List ℕ → List ℕ → End
 endOf r m buf = record { reached = r; memory = m; answers = buf }
 
--- the samples r after c events and o bytes, with the answers so far in buf
+-- what r gives after c events and o bytes, with the answers so far in buf
 abbrev pub end : ℕ → ℕ → List ℕ → Samples → End
 end c o buf r = endOf (reachedBy c o r) (r .memory) (sets buf c (r .answers))
 
@@ -61,7 +61,7 @@ end c o buf r = endOf (reachedBy c o r) (r .memory) (sets buf c (r .answers))
 pub three : (a b : End) → a ≡ b → (a .reached ≡ b .reached) × (a .memory ≡ b .memory) × (a .answers ≡ b .answers)
 three a b e = (ap (λ (f : End). f .reached) e, ap (λ (f : End). f .memory) e, ap (λ (f : End). f .answers) e)
 
--- ---- the two tests before a sample
+-- ---- the two tests before one of them
 
 next-tests : (a b : Bool) → cond a b false ≡ true → (a ≡ true) × (b ≡ true)
 next-tests true true h = (refl, refl)

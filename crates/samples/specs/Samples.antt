@@ -6,7 +6,9 @@ use mathlib.Core.List.{List, [], _∷_}
 use lib.Dec.{eqb, ltb}
 use lib.ListN.{drop, getD}
 use Rattle.parts.specs.declared.answer.Answer.{Answer}
+use Rattle.parts.specs.declared.part.Bus.the-variants.{Spi, I2c}
 use Rattle.parts.specs.Numbers.{answerNumber}
+use Rattle.trace.specs.Event.{sampleLimit}
 use Rattle.trace.specs.Sample.{staysFirst, firstEvent}
 use Rattle.spi.specs.declared.levels.Levels as SpiLevels
 use Rattle.spi.specs.declared.phase.Phase as SpiPhase
@@ -41,8 +43,8 @@ one a r = record { model = r .model; count = 1 + r .count; offset = 2 + r .offse
 -- whether the next event is a sample in range, or an expected answer that holds, of a part under power
 abbrev pub staysOn : BusState → List ℕ → Bool
 staysOn Unpowered t = false
-staysOn (SpiOn x) t = staysFirst 32 (answerNumber (SpiShow.answerAt (x .last) (x .shown))) t
-staysOn (I2cOn x) t = staysFirst 8 (answerNumber (I2cSample.answerOf (x .pulling))) t
+staysOn (SpiOn x) t = staysFirst (sampleLimit Spi) (answerNumber (SpiShow.answerAt (x .last) (x .shown))) t
+staysOn (I2cOn x) t = staysFirst (sampleLimit I2c) (answerNumber (I2cSample.answerOf (x .pulling))) t
 
 -- what that event does
 abbrev pub firstDone : Model → List ℕ → List ℕ → Outcome

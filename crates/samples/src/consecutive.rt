@@ -11,7 +11,7 @@ use chip::model::BusState;
 use chip::model::Model;
 use parts::part::Part;
 
-// From start on, within the quota, where first events were accepted before. Without power there are none.
+// From offset `start` on, within the quota, after `first` accepted events. Without power there are none.
 pub fn samples(
     part: Part,
     model: Model,

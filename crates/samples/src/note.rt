@@ -1,8 +1,8 @@
-// Answers into a host's buffer.
+// Bytes into a host's buffer.
 ghost use mathlib.Core.Path.{_≡_};
 ghost use lib.ListN.{set};
 
-// The answer of an accepted event, while there is room for it.
+// One byte, such as the answer of an accepted event, while there is room for it.
 pub fn note(answers: &mut [u8], at: usize, answer: u8)
     ensures { λ r. ⌜ now (answers .exit) ≡ set (now (answers .entry)) at answer ⌝ }
 {

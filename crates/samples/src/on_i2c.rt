@@ -76,7 +76,7 @@ fn next_is(trace: &[u8], quota: usize, count: usize, offset: usize, pulling: boo
     trace::sample::stays_first(&trace[offset..], 8, answer.number())
 }
 
-// As many of these events as come one after the other from start on, within the quota, where first events were accepted before.
+// As many of these events as come one after the other from offset `start` on, within the quota, after `first` accepted events.
 pub fn i2c_samples(
     part: Part,
     model: Model,

@@ -85,7 +85,7 @@ fn next_is(trace: &[u8], quota: usize, count: usize, offset: usize, last: u8, sh
     trace::sample::expected_first(&trace[offset..], answer.number())
 }
 
-// As many of these events as come one after the other from start on, within the quota, where first events were accepted before.
+// As many of these events as come one after the other from offset `start` on, within the quota, after `first` accepted events.
 pub fn spi_samples(
     part: Part,
     model: Model,

@@ -1,4 +1,4 @@
-// One sample of an SPI part.
+// The rules of one sample of an SPI part.
 pub mod deselect;
 pub mod edge;
 pub mod levels;

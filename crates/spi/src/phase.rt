@@ -1,8 +1,6 @@
 // What an SPI part is waiting for, one case for each phase with that phase's own numbers.
 ghost use mathlib.Core.Path.{_≡_};
-ghost use Prim.Native.Nat.{_≤_};
 ghost use Rattle.spi.specs.Phase.{width};
-ghost use Rattle.parts.specs.Table.{Fit};
 use parts::part::Part;
 
 // The bits that come in.

@@ -1,4 +1,4 @@
-// What an SPI part under power keeps between samples.
+// An SPI part under power.
 ghost use mathlib.Core.Path.{_≡_};
 ghost use Rattle.spi.specs.Sample.{selected};
 use crate::levels::Levels;
@@ -6,7 +6,7 @@ use crate::phase::Field;
 use crate::phase::Phase;
 use parts::answer::Answer;
 
-// Beside the status register.
+// What it keeps between samples, beside the status register.
 pub struct Spi {
     // the levels of the last sample
     pub last: Levels,

@@ -60,14 +60,8 @@ module _ (p : Part) (t : List ℕ) (e : Event) (n : ℕ) where
   unfolding readOf
   reads-whole s = rw (ne-eqb _ _ (s .some), s .known, le-ltb _ _ (s .long), s .inside, s .event, s .taken)
 
-  pub taken-positive : readOf p t ≡ Whole e n → 0 < n
-  taken-positive h = rw (passed h .taken) at (length-positive (getD t 0 0))
-
   pub taken-within : readOf p t ≡ Whole e n → n ≤ length t
   taken-within h = let s = passed h in rw (s .taken) at (s .long)
-
-  pub whole-fields : readOf p t ≡ Whole e n → fieldsIn p e ≡ true
-  whole-fields h = let s = passed h in rw (s .event) at (s .inside)
 
 -- the front of longer bytes
 module _ (t u : List ℕ) where

@@ -15,7 +15,7 @@ sampleFirst limit t = cond (ltb (length t) 2) false (cond (eqb (getD t 0 0) 4) (
 abbrev pub expectedFirst : ℕ → List ℕ → Bool
 expectedFirst answer t = cond (ltb (length t) 2) false (cond (eqb (getD t 0 0) 5) (eqb (getD t 1 0) answer) false)
 
--- either, where the part's present answer is this one
+-- either, where the part's present answer is this one: under power such an event is accepted and leaves power on
 abbrev pub staysFirst : ℕ → ℕ → List ℕ → Bool
 staysFirst limit answer t = cond (sampleFirst limit t) true (expectedFirst answer t)
 

@@ -30,7 +30,7 @@ pub fn expected_first(bytes: &[u8], answer: u8) -> bool
     }
 }
 
-// Either of the two.
+// Either of the two: an event that is accepted and leaves power on, where the part answers `answer` at present.
 pub fn stays_first(bytes: &[u8], limit: u8, answer: u8) -> bool
     ensures { λ r. ⌜ r ≡ staysFirst limit answer (now (bytes .entry)) ⌝ }
 {

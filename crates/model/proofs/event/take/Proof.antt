@@ -1,4 +1,4 @@
--- `take` meets its contract: the samples at the front of the bytes are the event, or there is none. Assumes nothing.
+-- `take` meets its contract: the loop took the event, or it is another one. Assumes nothing.
 use native.Mathlib.Omega.{arith}
 use Rattle.model.proofs.TakeLaws.{took-other, took-sample}
 use borrow.Author.Needs.{needs}
