@@ -1,10 +1,12 @@
 //! How fast the proved build is beside the twin, in one process and on the same traces: medians of
-//! interleaved rounds, no answers collected on either side. `speed [ROUNDS]`.
+//! interleaved rounds, no answers collected on either side. `speed [ROUNDS [LIMIT]]`; it fails if a
+//! ratio is above the limit.
 
 use drive::script::{addressed, Script};
 use drive::tally::events;
 use drive::{Making, Ran};
 use std::hint::black_box;
+use std::process::ExitCode;
 use std::time::Instant;
 use twin::gen::Rng;
 use twin::part::Wires;
@@ -19,9 +21,11 @@ struct Stream {
     trace: Vec<u8>,
 }
 
-fn main() {
-    let rounds = std::env::args().nth(1).and_then(|word| word.parse().ok());
-    let rounds = rounds.unwrap_or(15);
+fn main() -> ExitCode {
+    let word = |at| std::env::args().nth(at);
+    let rounds = word(1).and_then(|word| word.parse().ok()).unwrap_or(15);
+    let limit = word(2).and_then(|word| word.parse().ok());
+    let limit = limit.unwrap_or(f64::INFINITY);
     println!("                                       million events a second     ns an event");
     println!("stream         memory      events      proved        twin   ratio  proved    twin");
     let streams = [
@@ -34,13 +38,17 @@ fn main() {
         expected("SPI checked", spi_read(0)),
         expected("I2C checked", i2c_read(3)),
     ];
-    for stream in streams {
-        measure(&stream, rounds);
-    }
+    let mut ratios: Vec<f64> = streams.iter().map(|it| measure(it, rounds)).collect();
     println!("\nthe same stream on memories of three sizes");
     for part in 0..3 {
-        measure(&spi_write(part), rounds);
-        measure(&spi_read(part), rounds);
+        ratios.push(measure(&spi_write(part), rounds));
+        ratios.push(measure(&spi_read(part), rounds));
+    }
+    if ratios.iter().all(|&ratio| ratio <= limit) {
+        ExitCode::SUCCESS
+    } else {
+        println!("a ratio is above {limit}");
+        ExitCode::FAILURE
     }
 }
 
@@ -142,7 +150,7 @@ fn random(part: u32) -> Stream {
 
 /// Rounds that begin with either side in turn, each over cleared memories. The ratio is that of the
 /// two times of a round, so that a load that comes and goes falls on both.
-fn measure(stream: &Stream, rounds: usize) {
+fn measure(stream: &Stream, rounds: usize) -> f64 {
     let size = PARTS[stream.part as usize].size;
     let mut events = 0;
     let mut times = Vec::new();
@@ -168,6 +176,7 @@ fn measure(stream: &Stream, rounds: usize) {
     print!("{:<11} {size:>9} {events:>11} ", stream.name);
     print!("{:>11.1} {:>11.1} {ratio:>7.2} ", rate(ours), rate(theirs));
     println!("{:>7.1} {:>7.1}", nanos(ours), nanos(theirs));
+    ratio
 }
 
 /// A run and its seconds.
