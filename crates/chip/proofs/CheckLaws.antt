@@ -14,16 +14,15 @@ use Rattle.parts.specs.Table.{isSpi, partOf}
 use Rattle.parts.proofs.Rows.{and-both, part-fits}
 use Rattle.spi.specs.declared.sample.Spi as SpiState
 use Rattle.spi.specs.Sample as SpiSample
-use Rattle.spi.proofs.RangeLaws as SpiRanges
+use Rattle.selection.proofs.RangeLaws as SpiRanges
 use Rattle.i2c.specs.declared.sample.I2c as I2cState
 use Rattle.i2c.specs.Sample as I2cSample
-use Rattle.i2c.proofs.RangeLaws as I2cRanges
+use Rattle.transfer.proofs.RangeLaws as I2cRanges
 use Rattle.chip.specs.declared.check.Verdict.{Verdict}
 use Rattle.chip.specs.declared.check.Verdict.the-variants.{Passed, Failed}
 use Rattle.chip.specs.declared.model.BusState.the-variants.{SpiOn, I2cOn}
 use Rattle.chip.specs.declared.model.Model.{Model}
-use Rattle.chip.specs.Check.{noBits, holdsBits, modelIn, busIn, checkOf}
-use Rattle.chip.specs.Event.{Sound}
+use Rattle.chip.specs.Check.{noBits, holdsBits, modelIn, busIn, checkOf, Sound}
 
 -- a test that passed, before others that would have failed with a refusal
 passed : (t : Bool) (v : Verdict) (r : Refusal) → cond t v (Failed r) ≡ Passed → (t ≡ true) × (v ≡ Passed)

@@ -1,4 +1,1 @@
 pub mod CheckLaws
-pub mod Keeps
-pub mod Stays
-pub mod ApartLaws

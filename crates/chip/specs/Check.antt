@@ -1,14 +1,17 @@
 -- Numbers 1, 2 and 3, in that order.
 use Prim.Native.Nat.{ℕ}
+use mathlib.Core.Path.{_≡_}
 use mathlib.Core.Bool.{Bool, true, cond, not, _&&_}
+use mathlib.Core.List.{List}
 use lib.Dec.{ltb, eqb}
+use lib.ListN.{length}
 use Rattle.parts.specs.declared.part.Part.{Part}
 use Rattle.parts.specs.declared.refusal.Refusal.the-variants.{ModelRange, StateRange, MemoryLength}
 use Rattle.parts.specs.declared.status.Status.{Status}
 use Rattle.parts.specs.Table.{isSpi, partOf}
-use Rattle.spi.specs.Ranges as SpiRanges
+use Rattle.selection.specs.Ranges as SpiRanges
 use Rattle.i2c.specs.declared.sample.I2c as State
-use Rattle.i2c.specs.Ranges as I2cRanges
+use Rattle.transfer.specs.Ranges as I2cRanges
 use Rattle.chip.specs.declared.check.Verdict.{Verdict}
 use Rattle.chip.specs.declared.check.Verdict.the-variants.{Passed, Failed}
 use Rattle.chip.specs.declared.model.BusState.{BusState}
@@ -50,3 +53,7 @@ partCheck p s length = cond (busIn p (s .status) (s .bus)) (cond (eqb length (p 
 -- the first of 1, 2 and 3 that holds, with a memory of that length
 unfoldable pub checkOf : Model → ℕ → Verdict
 checkOf s length = cond (modelIn s) (partCheck (partOf (s .part)) s length) (Failed ModelRange)
+
+-- state and memory pass 1 to 3
+abbrev pub Sound : Model → List ℕ → Type 0
+Sound s m = checkOf s (length m) ≡ Passed

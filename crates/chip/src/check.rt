@@ -79,7 +79,7 @@ fn bus_in(part: Part, status: Status, bus: BusState) -> bool
         BusState::SpiOn { spi } => {
             if kind.is_spi() {
                 let phase = spi.phase;
-                spi::range::phase_in(part, phase)
+                selection::range::phase_in(part, phase)
             } else {
                 false
             }
@@ -100,7 +100,7 @@ fn i2c_in(part: Part, i2c: I2c) -> bool
     let buffer = i2c.buffer;
     let phase = i2c.phase;
     if buffer.address < part.size {
-        i2c::range::phase_in(part, phase)
+        transfer::range::phase_in(part, phase)
     } else {
         false
     }

@@ -1,5 +1,3 @@
-// A model's state, what is tested of it, and the events other than samples under power.
+// A model's state, and what is tested of it before anything else.
 pub mod check;
-pub mod event;
 pub mod model;
-pub mod power;

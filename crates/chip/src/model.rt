@@ -1,6 +1,6 @@
 // The state of a model.
 ghost use mathlib.Core.Path.{_≡_};
-ghost use Rattle.chip.specs.Model.{unpowered};
+ghost use Rattle.chip.specs.Model.{modelOf, unpowered};
 use i2c::sample::I2c;
 use parts::status::Status;
 use spi::sample::Spi;
@@ -29,5 +29,17 @@ pub fn unpowered(part: u32, pins: u32, status: Status) -> Model
         pins,
         status,
         bus: BusState::Unpowered,
+    }
+}
+
+// The state of this part and these pins with another register and bus.
+pub fn with_bus(model: Model, status: Status, bus: BusState) -> Model
+    ensures { λ r. ⌜ r ≡ modelOf (model .part) (model .pins) status bus ⌝ }
+{
+    Model {
+        part: model.part,
+        pins: model.pins,
+        status,
+        bus,
     }
 }

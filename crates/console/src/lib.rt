@@ -27,10 +27,19 @@ pub fn print(part: u32, trace: &[u8], memory: &mut [u8])
         let shown = io::count(length as isize, &out);
         io::write_all(STDOUT_FILENO, &out[..shown]);
     }
-    io::print_decimal(STDOUT_FILENO, report.number as u64);
+    print_figures(
+        report.number as u64,
+        report.count as u64,
+        report.offset as u64,
+    );
+}
+
+// The last line.
+fn print_figures(number: u64, count: u64, offset: u64) {
+    io::print_decimal(STDOUT_FILENO, number);
     io::write_all(STDOUT_FILENO, b" ");
-    io::print_decimal(STDOUT_FILENO, report.count as u64);
+    io::print_decimal(STDOUT_FILENO, count);
     io::write_all(STDOUT_FILENO, b" ");
-    io::print_decimal(STDOUT_FILENO, report.offset as u64);
+    io::print_decimal(STDOUT_FILENO, offset);
     io::write_all(STDOUT_FILENO, b"\n");
 }

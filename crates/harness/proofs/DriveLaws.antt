@@ -5,7 +5,7 @@ use mathlib.Core.List.{List}
 use borrow.Author.Tests.{eq-eqb, ne-eqb}
 use Rattle.model.specs.declared.make.Made.{Made}
 use Rattle.model.specs.Make.{makeOf}
-use Rattle.model.specs.Run.{stop, runOf}
+use Rattle.runs.specs.Run.{stop, runOf}
 use Rattle.harness.specs.Drive.{drivenRun}
 
 module _ (part pins bits quota : ℕ) (t m : List ℕ) (made : Made) (e : made ≡ makeOf part pins bits) where

@@ -6,7 +6,7 @@ use native.Mathlib.Numerals.{add-one}
 use native.Mathlib.Omega.{arith}
 use lib.ListN.{length, set, drop}
 use lib.Seq.{sets, sets-eq, drop-length}
-use Rattle.model.proofs.SetsLaws.{sets-append}
+use Rattle.runs.proofs.SetsLaws.{sets-append}
 use Rattle.harness.specs.Result.{byteOf, bytesOf}
 
 -- one byte more

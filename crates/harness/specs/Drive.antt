@@ -5,7 +5,7 @@ use mathlib.Core.List.{List}
 use lib.Dec.{eqb}
 use Rattle.model.specs.declared.make.Made.{Made}
 use Rattle.model.specs.Make.{makeOf}
-use Rattle.model.specs.Run.{Run, stop, runOf}
+use Rattle.runs.specs.Run.{Run, stop, runOf}
 
 abbrev pub runMade : Made → ℕ → List ℕ → List ℕ → Run
 runMade made quota t m = cond (eqb (made .number) 0) (runOf quota t (made .model) m) (stop (made .number) (made .model) m)

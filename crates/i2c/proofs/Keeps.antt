@@ -15,24 +15,24 @@ use Rattle.serial.specs.Write.{applied, Within}
 use Rattle.serial.proofs.AddressLaws.{next-within}
 use Rattle.serial.proofs.BitLaws.{shifted-within}
 use Rattle.serial.proofs.WriteLaws.{length-applied}
-use Rattle.i2c.specs.declared.buffer.AddressBuffer.{AddressBuffer}
-use Rattle.i2c.specs.declared.edge.Edge.{Edge}
-use Rattle.i2c.specs.declared.edge.Edge.the-variants.{Start, Stop, Rise, Fall, Quiet}
-use Rattle.i2c.specs.declared.levels.Levels.{Levels}
-use Rattle.i2c.specs.declared.phase.Field.{Field}
-use Rattle.i2c.specs.declared.phase.Field.the-variants.{Word, HighByte, LowByte, Data}
-use Rattle.i2c.specs.declared.phase.Phase.{Phase}
-use Rattle.i2c.specs.declared.phase.Phase.the-variants.{Rest, Deaf, Taking, Sending}
+use Rattle.transfer.specs.declared.buffer.AddressBuffer.{AddressBuffer}
+use Rattle.transfer.specs.declared.edge.Edge.{Edge}
+use Rattle.transfer.specs.declared.edge.Edge.the-variants.{Start, Stop, Rise, Fall, Quiet}
+use Rattle.transfer.specs.declared.levels.Levels.{Levels}
+use Rattle.transfer.specs.declared.phase.Field.{Field}
+use Rattle.transfer.specs.declared.phase.Field.the-variants.{Word, HighByte, LowByte, Data}
+use Rattle.transfer.specs.declared.phase.Phase.{Phase}
+use Rattle.transfer.specs.declared.phase.Phase.the-variants.{Rest, Deaf, Taking, Sending}
 use Rattle.i2c.specs.declared.sample.I2c.{I2c}
-use Rattle.i2c.specs.declared.word.DeviceWord.{DeviceWord}
-use Rattle.i2c.specs.declared.word.DeviceWord.the-variants.{ReadWord, WriteWord, OtherWord}
-use Rattle.i2c.specs.Edge.{edgeOf}
-use Rattle.i2c.specs.Phase.{begun, finished, afterRise}
-use Rattle.i2c.specs.Ranges.{FieldIn, PhaseIn, Placed}
+use Rattle.transfer.specs.declared.word.DeviceWord.{DeviceWord}
+use Rattle.transfer.specs.declared.word.DeviceWord.the-variants.{ReadWord, WriteWord, OtherWord}
+use Rattle.transfer.specs.Edge.{edgeOf}
+use Rattle.transfer.specs.Phase.{begun, finished, afterRise}
+use Rattle.transfer.specs.Ranges.{FieldIn, PhaseIn, Placed}
 use Rattle.i2c.specs.Sample.{stepOn, stepOf, Ready}
 use Rattle.i2c.specs.Store.{fieldWrite, riseWrite}
-use Rattle.i2c.specs.Word.{wordOf}
-use Rattle.i2c.proofs.BufferLaws.{joined-within, read-within, buffer-within}
+use Rattle.transfer.specs.Word.{wordOf}
+use Rattle.transfer.proofs.BufferLaws.{joined-within, read-within, buffer-within}
 
 -- the numbers of a byte with none of its bits yet
 none-in : 0 ≤ 8

@@ -1,4 +1,2 @@
-pub mod RangeLaws
-pub mod BufferLaws
 pub mod StoreLaws
 pub mod Keeps

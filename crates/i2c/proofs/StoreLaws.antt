@@ -7,13 +7,13 @@ use types.Run.{OneOf, miss}
 use denote.Enum.Declared.{tagOf}
 use lib.Dec.{ltb}
 use Rattle.serial.specs.declared.write.Write.the-variants.{Nothing}
-use Rattle.i2c.specs.declared.phase.Field.{Field}
-use Rattle.i2c.specs.declared.phase.Field.the-variants.{Word, HighByte, LowByte, Data}
-use Rattle.i2c.specs.declared.phase.Phase.{Phase}
-use Rattle.i2c.specs.declared.phase.Phase.the-variants.{Rest, Deaf, Taking, Sending}
+use Rattle.transfer.specs.declared.phase.Field.{Field}
+use Rattle.transfer.specs.declared.phase.Field.the-variants.{Word, HighByte, LowByte, Data}
+use Rattle.transfer.specs.declared.phase.Phase.{Phase}
+use Rattle.transfer.specs.declared.phase.Phase.the-variants.{Rest, Deaf, Taking, Sending}
 use Rattle.i2c.specs.Store.{fieldWrite, riseWrite}
-use Rattle.i2c.proofs.phase.Field as field
-use Rattle.i2c.proofs.phase.Phase as phase
+use Rattle.transfer.proofs.phase.Field as field
+use Rattle.transfer.proofs.phase.Phase as phase
 
 -- the variants besides `Taking`
 abbrev others : List ℕ

@@ -1,9 +1,3 @@
-pub mod Levels
-pub mod Edge
-pub mod Word
-pub mod Buffer
-pub mod Phase
-pub mod Ranges
 pub mod Store
 pub mod Pull
 pub mod Sample

@@ -7,13 +7,13 @@ use lib.Dec.{ltb}
 use lib.ListN.{getD}
 use Rattle.parts.specs.declared.part.Part.{Part}
 use Rattle.serial.specs.Bits.{bitAt}
-use Rattle.i2c.specs.declared.word.DeviceWord.{DeviceWord}
-use Rattle.i2c.specs.declared.word.DeviceWord.the-variants.{ReadWord, WriteWord, OtherWord}
-use Rattle.i2c.specs.declared.phase.Field.{Field}
-use Rattle.i2c.specs.declared.phase.Field.the-variants.{Word, HighByte, LowByte, Data}
-use Rattle.i2c.specs.declared.phase.Phase.{Phase}
-use Rattle.i2c.specs.declared.phase.Phase.the-variants.{Rest, Deaf, Taking, Sending}
-use Rattle.i2c.specs.Word.{wordOf}
+use Rattle.transfer.specs.declared.word.DeviceWord.{DeviceWord}
+use Rattle.transfer.specs.declared.word.DeviceWord.the-variants.{ReadWord, WriteWord, OtherWord}
+use Rattle.transfer.specs.declared.phase.Field.{Field}
+use Rattle.transfer.specs.declared.phase.Field.the-variants.{Word, HighByte, LowByte, Data}
+use Rattle.transfer.specs.declared.phase.Phase.{Phase}
+use Rattle.transfer.specs.declared.phase.Phase.the-variants.{Rest, Deaf, Taking, Sending}
+use Rattle.transfer.specs.Word.{wordOf}
 
 abbrev pub ours : DeviceWord → Bool
 ours (ReadWord a16) = true

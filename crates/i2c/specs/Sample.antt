@@ -9,20 +9,20 @@ use Rattle.parts.specs.declared.answer.Answer.the-variants.{Low, HighZ}
 use Rattle.parts.specs.declared.part.Part.{Part}
 use Rattle.serial.specs.declared.write.Write.{Write}
 use Rattle.serial.specs.declared.write.Write.the-variants.{Nothing}
-use Rattle.i2c.specs.declared.levels.Levels.{Levels}
-use Rattle.i2c.specs.declared.edge.Edge.{Edge}
-use Rattle.i2c.specs.declared.edge.Edge.the-variants.{Start, Stop, Rise, Fall, Quiet}
-use Rattle.i2c.specs.declared.buffer.AddressBuffer.{AddressBuffer}
-use Rattle.i2c.specs.declared.phase.Field.the-variants.{Word}
-use Rattle.i2c.specs.declared.phase.Phase.{Phase}
-use Rattle.i2c.specs.declared.phase.Phase.the-variants.{Rest, Taking}
+use Rattle.transfer.specs.declared.levels.Levels.{Levels}
+use Rattle.transfer.specs.declared.edge.Edge.{Edge}
+use Rattle.transfer.specs.declared.edge.Edge.the-variants.{Start, Stop, Rise, Fall, Quiet}
+use Rattle.transfer.specs.declared.buffer.AddressBuffer.{AddressBuffer}
+use Rattle.transfer.specs.declared.phase.Field.the-variants.{Word}
+use Rattle.transfer.specs.declared.phase.Phase.{Phase}
+use Rattle.transfer.specs.declared.phase.Phase.the-variants.{Rest, Taking}
 use Rattle.i2c.specs.declared.sample.I2c.{I2c}
-use Rattle.i2c.specs.Edge.{edgeOf}
-use Rattle.i2c.specs.Phase.{afterRise}
-use Rattle.i2c.specs.Buffer.{bufferAfter}
+use Rattle.transfer.specs.Edge.{edgeOf}
+use Rattle.transfer.specs.Phase.{afterRise}
+use Rattle.transfer.specs.Buffer.{bufferAfter}
 use Rattle.i2c.specs.Store.{riseWrite}
 use Rattle.i2c.specs.Pull.{pullsAfter}
-use Rattle.i2c.specs.Ranges.{PhaseIn, Placed}
+use Rattle.transfer.specs.Ranges.{PhaseIn, Placed}
 
 -- I2C never answers 1
 abbrev pub answerOf : Bool → Answer

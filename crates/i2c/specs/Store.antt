@@ -4,10 +4,10 @@ use mathlib.Core.Bool.{Bool, cond}
 use lib.Dec.{ltb}
 use Rattle.serial.specs.declared.write.Write.{Write}
 use Rattle.serial.specs.declared.write.Write.the-variants.{Nothing, Byte}
-use Rattle.i2c.specs.declared.phase.Field.{Field}
-use Rattle.i2c.specs.declared.phase.Field.the-variants.{Word, HighByte, LowByte, Data}
-use Rattle.i2c.specs.declared.phase.Phase.{Phase}
-use Rattle.i2c.specs.declared.phase.Phase.the-variants.{Rest, Deaf, Taking, Sending}
+use Rattle.transfer.specs.declared.phase.Field.{Field}
+use Rattle.transfer.specs.declared.phase.Field.the-variants.{Word, HighByte, LowByte, Data}
+use Rattle.transfer.specs.declared.phase.Phase.{Phase}
+use Rattle.transfer.specs.declared.phase.Phase.the-variants.{Rest, Deaf, Taking, Sending}
 
 -- the ninth rise of a byte that came in as v
 abbrev pub fieldWrite : Field → ℕ → Bool → Write

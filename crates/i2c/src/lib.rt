@@ -1,11 +1,4 @@
-// The rules of one sample of an I2C part.
-pub mod buffer;
-pub mod edge;
-pub mod levels;
-pub mod phase;
+// What a sample does on an I2C part: acknowledges, bits sent, bytes stored.
 pub mod pull;
-pub mod range;
-pub mod rise;
 pub mod sample;
 pub mod store;
-pub mod word;

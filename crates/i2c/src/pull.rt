@@ -3,11 +3,11 @@ ghost use mathlib.Core.Path.{_≡_};
 ghost use Prim.Native.Nat.{_<_};
 ghost use lib.ListN.{length};
 ghost use Rattle.i2c.specs.Pull.{ours, acknowledges, pullsAfter};
-ghost use Rattle.i2c.specs.Ranges.{PhaseIn};
-use crate::phase::Field;
-use crate::phase::Phase;
-use crate::word::DeviceWord;
+ghost use Rattle.transfer.specs.Ranges.{PhaseIn};
 use parts::part::Part;
+use transfer::phase::Field;
+use transfer::phase::Phase;
+use transfer::word::DeviceWord;
 
 fn is_ours(word: DeviceWord) -> bool
     ensures { λ r. ⌜ r ≡ ours word ⌝ }
@@ -25,7 +25,7 @@ fn acknowledge(part: Part, pins: u8, field: Field, value: u32) -> bool
     ensures { λ r. ⌜ r ≡ acknowledges part pins field value ⌝ }
 {
     match field {
-        Field::Word => is_ours(crate::word::word_of(part, pins, value)),
+        Field::Word => is_ours(transfer::word::word_of(part, pins, value)),
         Field::HighByte { a16: _ } => true,
         Field::LowByte { a16: _, high: _ } => true,
         Field::Data { address: _ } => true,

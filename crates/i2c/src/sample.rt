@@ -1,10 +1,10 @@
 // An I2C part under power.
 ghost use mathlib.Core.Path.{_≡_};
 ghost use Rattle.i2c.specs.Sample.{answerOf};
-use crate::buffer::AddressBuffer;
-use crate::levels::Levels;
-use crate::phase::Phase;
 use parts::answer::Answer;
+use transfer::buffer::AddressBuffer;
+use transfer::levels::Levels;
+use transfer::phase::Phase;
 
 // What it keeps between samples.
 pub struct I2c {

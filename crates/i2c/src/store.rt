@@ -1,11 +1,11 @@
 // What a rise of SCL writes.
 ghost use mathlib.Core.Path.{_≡_};
 ghost use Rattle.i2c.specs.Store.{riseWrite};
-ghost use Rattle.i2c.specs.Ranges.{PhaseIn};
-use crate::phase::Field;
-use crate::phase::Phase;
+ghost use Rattle.transfer.specs.Ranges.{PhaseIn};
 use parts::part::Part;
 use serial::write::Write;
+use transfer::phase::Field;
+use transfer::phase::Phase;
 
 pub fn rise_write(part: Part, phase: Phase, wp: bool) -> Write
     requires { ⌜ PhaseIn part phase ⌝ }

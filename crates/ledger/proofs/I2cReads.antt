@@ -8,17 +8,17 @@ use lib.Dec.{ltb}
 use Rattle.parts.specs.declared.part.Part.{Part}
 use Rattle.serial.specs.declared.write.Write.the-variants as write
 use Rattle.serial.specs.Address.{nextAddress}
-use Rattle.i2c.specs.declared.buffer.AddressBuffer.{AddressBuffer}
-use Rattle.i2c.specs.declared.phase.Field.{Field}
-use Rattle.i2c.specs.declared.phase.Field.the-variants.{Word, HighByte, LowByte, Data}
-use Rattle.i2c.specs.declared.phase.Phase.{Phase}
-use Rattle.i2c.specs.declared.phase.Phase.the-variants.{Deaf, Taking, Sending}
-use Rattle.i2c.specs.declared.word.DeviceWord.{DeviceWord}
-use Rattle.i2c.specs.declared.word.DeviceWord.the-variants.{ReadWord, WriteWord, OtherWord}
-use Rattle.i2c.specs.Buffer.{joined, fieldBuffer, bufferAfter}
-use Rattle.i2c.specs.Phase.{begun, finished, afterRise}
+use Rattle.transfer.specs.declared.buffer.AddressBuffer.{AddressBuffer}
+use Rattle.transfer.specs.declared.phase.Field.{Field}
+use Rattle.transfer.specs.declared.phase.Field.the-variants.{Word, HighByte, LowByte, Data}
+use Rattle.transfer.specs.declared.phase.Phase.{Phase}
+use Rattle.transfer.specs.declared.phase.Phase.the-variants.{Deaf, Taking, Sending}
+use Rattle.transfer.specs.declared.word.DeviceWord.{DeviceWord}
+use Rattle.transfer.specs.declared.word.DeviceWord.the-variants.{ReadWord, WriteWord, OtherWord}
+use Rattle.transfer.specs.Buffer.{joined, fieldBuffer, bufferAfter}
+use Rattle.transfer.specs.Phase.{begun, finished, afterRise}
 use Rattle.i2c.specs.Store.{fieldWrite, riseWrite}
-use Rattle.i2c.specs.Word.{wordOf}
+use Rattle.transfer.specs.Word.{wordOf}
 use Rattle.ledger.specs.Stores.{Store}
 use Rattle.ledger.specs.I2cLedger.{Clock, Byte, bytes, placed, written, byWord, stores}
 use Rattle.ledger.proofs.Folds as Folds

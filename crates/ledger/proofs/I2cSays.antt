@@ -6,11 +6,11 @@ use mathlib.Core.Bool.{Bool, true, false}
 use mathlib.Core.List.{List, [], _∷_}
 use Rattle.parts.specs.declared.part.Part.{Part}
 use Rattle.trace.specs.declared.event.Event.the-variants.{I2cPowerOn, PowerOff, Sample, Expected}
-use Rattle.i2c.specs.declared.buffer.AddressBuffer.{AddressBuffer}
-use Rattle.i2c.specs.declared.edge.Edge.the-variants.{Start, Stop, Fall}
-use Rattle.i2c.specs.declared.word.DeviceWord.the-variants.{WriteWord, OtherWord}
-use Rattle.i2c.specs.Levels.{levelsOf}
-use Rattle.i2c.specs.Word.{wordOf}
+use Rattle.transfer.specs.declared.buffer.AddressBuffer.{AddressBuffer}
+use Rattle.transfer.specs.declared.edge.Edge.the-variants.{Start, Stop, Fall}
+use Rattle.transfer.specs.declared.word.DeviceWord.the-variants.{WriteWord, OtherWord}
+use Rattle.transfer.specs.Levels.{levelsOf}
+use Rattle.transfer.specs.Word.{wordOf}
 use Rattle.ledger.specs.Bits.{number}
 use Rattle.ledger.specs.History.{Entry}
 use Rattle.ledger.specs.I2cLedger.{Clock, Byte, bytes, wiresAt, edgeBetween, lastWires, items}

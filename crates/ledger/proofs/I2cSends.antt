@@ -13,10 +13,10 @@ use Rattle.parts.specs.declared.part.Part.{Part}
 use Rattle.serial.specs.Address.{nextAddress}
 use Rattle.serial.specs.Bits.{bitAt}
 use Rattle.serial.proofs.AddressLaws.{next-within}
-use Rattle.i2c.specs.declared.buffer.AddressBuffer.{AddressBuffer}
-use Rattle.i2c.specs.declared.word.DeviceWord.the-variants.{ReadWord}
-use Rattle.i2c.specs.Buffer.{readAddress}
-use Rattle.i2c.specs.Word.{wordOf}
+use Rattle.transfer.specs.declared.buffer.AddressBuffer.{AddressBuffer}
+use Rattle.transfer.specs.declared.word.DeviceWord.the-variants.{ReadWord}
+use Rattle.transfer.specs.Buffer.{readAddress}
+use Rattle.transfer.specs.Word.{wordOf}
 use Rattle.ledger.specs.I2cLedger.{Clock, Byte, bytes}
 use Rattle.ledger.specs.I2cAnswers.{unfinished, showsLow, sendsLow, spanPulls}
 

@@ -5,8 +5,8 @@ use mathlib.Core.Path.{_≡_, refl}
 use mathlib.Core.Bool.{Bool}
 use mathlib.Core.List.{List, [], _∷_, _++_, append-nil, append-assoc}
 use Rattle.trace.specs.declared.event.Event.the-variants.{PowerOff}
-use Rattle.i2c.specs.declared.edge.Edge.{Edge}
-use Rattle.i2c.specs.declared.edge.Edge.the-variants.{Start, Stop, Rise, Fall, Quiet}
+use Rattle.transfer.specs.declared.edge.Edge.{Edge}
+use Rattle.transfer.specs.declared.edge.Edge.the-variants.{Start, Stop, Rise, Fall, Quiet}
 use Rattle.ledger.specs.I2cLedger.{Clock, Item, idle, span, noted, Wires, itemsAfter}
 
 -- an edge, and WP at its sample

@@ -9,7 +9,7 @@ use Rattle.parts.specs.Table.{mr45v032a, mr45v100a, mr45v200b}
 use Rattle.serial.specs.Bits.{bitAt}
 use Rattle.trace.specs.declared.event.Event.{Event}
 use Rattle.trace.specs.declared.event.Event.the-variants.{SpiPowerOn, Sample}
-use Rattle.spi.specs.Opcode.{commandOf}
+use Rattle.selection.specs.Opcode.{commandOf}
 use Rattle.ledger.specs.History.{Entry}
 use Rattle.ledger.specs.SpiLedger.{noBits}
 use Rattle.ledger.specs.SpiAnswers.{spiAnswer}

@@ -14,14 +14,14 @@ use Rattle.parts.specs.Numbers.{answerNumber}
 use Rattle.parts.specs.Table.{Fit}
 use Rattle.serial.specs.declared.write.Write.the-variants.{Nothing}
 use Rattle.serial.specs.Write.{applied}
-use Rattle.spi.specs.declared.edge.Edge.{Edge}
-use Rattle.spi.specs.declared.edge.Edge.the-variants.{Select, Deselect, Rise, Fall, Quiet}
-use Rattle.spi.specs.declared.levels.Levels.{Levels}
-use Rattle.spi.specs.declared.phase.Phase.{Phase}
-use Rattle.spi.specs.declared.phase.Phase.the-variants.{Rest, Deaf, Taking, Showing, Waiting}
+use Rattle.selection.specs.declared.edge.Edge.{Edge}
+use Rattle.selection.specs.declared.edge.Edge.the-variants.{Select, Deselect, Rise, Fall, Quiet}
+use Rattle.selection.specs.declared.levels.Levels.{Levels}
+use Rattle.selection.specs.declared.phase.Phase.{Phase}
+use Rattle.selection.specs.declared.phase.Phase.the-variants.{Rest, Deaf, Taking, Showing, Waiting}
 use Rattle.spi.specs.declared.sample.Spi.{Spi}
-use Rattle.spi.specs.Edge.{edgeOf}
-use Rattle.spi.specs.Phase.{nextSource, afterRise}
+use Rattle.selection.specs.Edge.{edgeOf}
+use Rattle.selection.specs.Phase.{nextSource, afterRise}
 use Rattle.spi.specs.Sample.{stepOn, stepOf}
 use Rattle.spi.specs.Show.{afterFall, answerAt}
 use Rattle.spi.specs.Store.{riseWrite}

@@ -10,15 +10,15 @@ use Rattle.parts.specs.declared.part.Part.{Part}
 use Rattle.parts.specs.declared.status.Status.{Status}
 use Rattle.parts.specs.Table.{Fit}
 use Rattle.serial.specs.Write.{applied}
-use Rattle.spi.specs.declared.edge.Edge.{Edge}
-use Rattle.spi.specs.declared.levels.Levels.{Levels}
-use Rattle.spi.specs.declared.phase.Field.the-variants.{Opcode}
-use Rattle.spi.specs.declared.phase.Phase.{Phase}
-use Rattle.spi.specs.declared.phase.Phase.the-variants.{Rest, Deaf, Taking}
+use Rattle.selection.specs.declared.edge.Edge.{Edge}
+use Rattle.selection.specs.declared.levels.Levels.{Levels}
+use Rattle.selection.specs.declared.phase.Field.the-variants.{Opcode}
+use Rattle.selection.specs.declared.phase.Phase.{Phase}
+use Rattle.selection.specs.declared.phase.Phase.the-variants.{Rest, Deaf, Taking}
 use Rattle.spi.specs.declared.sample.Spi.{Spi}
-use Rattle.spi.specs.Deselect.{statusAfter, asleepAfter}
-use Rattle.spi.specs.Edge.{clockEdge, selectEdge, edgeOf}
-use Rattle.spi.specs.Phase.{afterRise}
+use Rattle.spi_status.specs.Deselect.{statusAfter, asleepAfter}
+use Rattle.selection.specs.Edge.{clockEdge, selectEdge, edgeOf}
+use Rattle.selection.specs.Phase.{afterRise}
 use Rattle.spi.specs.Sample.{selected, stepOn, stepOf}
 use Rattle.spi.specs.Show.{afterFall}
 use Rattle.spi.specs.Store.{riseWrite}

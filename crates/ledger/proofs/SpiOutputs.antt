@@ -11,8 +11,8 @@ use borrow.Author.Tests.{le-ltb}
 use Rattle.parts.specs.declared.part.Part.{Part}
 use Rattle.parts.specs.declared.status.Status.{Status}
 use Rattle.parts.specs.Status.{statusByte}
-use Rattle.spi.specs.declared.opcode.Command.{Command}
-use Rattle.spi.specs.declared.opcode.Command.the-variants.{RDSR, READ}
+use Rattle.selection.specs.declared.opcode.Command.{Command}
+use Rattle.selection.specs.declared.opcode.Command.the-variants.{RDSR, READ}
 use Rattle.ledger.specs.Bits.{number, Field as Bits, short, whole, put, field}
 use Rattle.ledger.specs.SpiLedger.{Reading, partial, command, opcodeRead, reading}
 use Rattle.ledger.specs.SpiAnswers.{readShows}

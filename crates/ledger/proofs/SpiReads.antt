@@ -14,19 +14,19 @@ use Rattle.parts.specs.Status.{protectedStart}
 use Rattle.serial.specs.declared.write.Write.the-variants.{Nothing, Byte}
 use Rattle.serial.specs.Address.{nextAddress}
 use Rattle.serial.specs.Bits.{shifted}
-use Rattle.spi.specs.declared.opcode.Command.{Command}
-use Rattle.spi.specs.declared.opcode.Command.the-variants.{WREN, WRDI, RDSR, WRSR, READ, WRITE, FSTRD, RDID, SLEEP, Unknown}
-use Rattle.spi.specs.declared.phase.Action.{Action}
-use Rattle.spi.specs.declared.phase.Action.the-variants.{SetLatch, ClearLatch, FallAsleep, WriteStatus}
-use Rattle.spi.specs.declared.phase.Field.{Field}
-use Rattle.spi.specs.declared.phase.Field.the-variants.{Opcode, ReadAddress, FastAddress, WriteAddress, Dummy, Data, StatusByte}
-use Rattle.spi.specs.declared.phase.Phase.{Phase}
-use Rattle.spi.specs.declared.phase.Phase.the-variants.{Deaf, Taking, Showing, Waiting}
-use Rattle.spi.specs.declared.phase.Source.{Source}
-use Rattle.spi.specs.declared.phase.Source.the-variants.{Memory, Register, Identity}
-use Rattle.spi.specs.Deselect.{fieldStatus, statusAfter, sleeps}
-use Rattle.spi.specs.Opcode.{commandOf}
-use Rattle.spi.specs.Phase.{width, begun, filled, nextSource, afterRise}
+use Rattle.selection.specs.declared.opcode.Command.{Command}
+use Rattle.selection.specs.declared.opcode.Command.the-variants.{WREN, WRDI, RDSR, WRSR, READ, WRITE, FSTRD, RDID, SLEEP, Unknown}
+use Rattle.selection.specs.declared.phase.Action.{Action}
+use Rattle.selection.specs.declared.phase.Action.the-variants.{SetLatch, ClearLatch, FallAsleep, WriteStatus}
+use Rattle.selection.specs.declared.phase.Field.{Field}
+use Rattle.selection.specs.declared.phase.Field.the-variants.{Opcode, ReadAddress, FastAddress, WriteAddress, Dummy, Data, StatusByte}
+use Rattle.selection.specs.declared.phase.Phase.{Phase}
+use Rattle.selection.specs.declared.phase.Phase.the-variants.{Deaf, Taking, Showing, Waiting}
+use Rattle.selection.specs.declared.phase.Source.{Source}
+use Rattle.selection.specs.declared.phase.Source.the-variants.{Memory, Register, Identity}
+use Rattle.spi_status.specs.Deselect.{fieldStatus, statusAfter, sleeps}
+use Rattle.selection.specs.Opcode.{commandOf}
+use Rattle.selection.specs.Phase.{width, begun, filled, nextSource, afterRise}
 use Rattle.spi.specs.Store.{permitted, fieldWrite, riseWrite}
 use Rattle.ledger.specs.Bits.{numberAfter, number, Field as Bits, short, whole, put, field, bytes}
 use Rattle.ledger.specs.Stores.{Store}

@@ -3,8 +3,8 @@
 use mathlib.Core.Path.{_≡_, refl, ap, _∙_}
 use mathlib.Core.Bool.{Bool, true, false, cond, not, _&&_}
 use mathlib.Core.List.{List, [], _∷_, _++_, append-assoc, append-nil}
-use Rattle.spi.specs.declared.levels.Levels.{Levels}
-use Rattle.spi.specs.Edge.{clockEdge, edgeOf}
+use Rattle.selection.specs.declared.levels.Levels.{Levels}
+use Rattle.selection.specs.Edge.{clockEdge, edgeOf}
 use Rattle.ledger.specs.SpiLedger.{unended, ended, Item, selection, noted}
 
 -- the items after samples that follow one with the levels a

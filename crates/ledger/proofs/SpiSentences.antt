@@ -6,10 +6,10 @@ use mathlib.Core.Bool.{true, false}
 use mathlib.Core.List.{List, _∷_}
 use Rattle.parts.specs.declared.part.Part.{Part}
 use Rattle.trace.specs.declared.event.Event.the-variants.{SpiPowerOn, PowerOff, Sample, Expected}
-use Rattle.spi.specs.declared.edge.Edge.the-variants.{Quiet}
-use Rattle.spi.specs.declared.levels.Levels.{Levels}
-use Rattle.spi.specs.Edge.{edgeOf}
-use Rattle.spi.specs.Levels.{levelsOf}
+use Rattle.selection.specs.declared.edge.Edge.the-variants.{Quiet}
+use Rattle.selection.specs.declared.levels.Levels.{Levels}
+use Rattle.selection.specs.Edge.{edgeOf}
+use Rattle.selection.specs.Levels.{levelsOf}
 use Rattle.ledger.specs.History.{Entry}
 use Rattle.ledger.specs.SpiLedger.{SavedBits, lastSample}
 use Rattle.ledger.specs.SpiAnswers.{spiAnswer}

@@ -13,15 +13,15 @@ use Rattle.parts.specs.declared.part.Part.{Part}
 use Rattle.parts.specs.declared.status.Status.{Status}
 use Rattle.parts.specs.Status.{statusByte}
 use Rattle.serial.specs.Bits.{shifted}
-use Rattle.spi.specs.declared.opcode.Command.{Command}
-use Rattle.spi.specs.declared.opcode.Command.the-variants.{WREN, WRDI, RDSR, WRSR, READ, WRITE, FSTRD, RDID, SLEEP, Unknown}
-use Rattle.spi.specs.declared.phase.Field.{Field}
-use Rattle.spi.specs.declared.phase.Field.the-variants.{Opcode, ReadAddress, FastAddress, WriteAddress, Dummy, Data, StatusByte}
-use Rattle.spi.specs.declared.phase.Phase.{Phase}
-use Rattle.spi.specs.declared.phase.Phase.the-variants.{Rest, Deaf, Taking, Showing, Waiting}
-use Rattle.spi.specs.declared.phase.Source.the-variants.{Memory, Register, Identity}
-use Rattle.spi.specs.Opcode.{commandOf}
-use Rattle.spi.specs.Phase.{width, begun, filled, afterRise}
+use Rattle.selection.specs.declared.opcode.Command.{Command}
+use Rattle.selection.specs.declared.opcode.Command.the-variants.{WREN, WRDI, RDSR, WRSR, READ, WRITE, FSTRD, RDID, SLEEP, Unknown}
+use Rattle.selection.specs.declared.phase.Field.{Field}
+use Rattle.selection.specs.declared.phase.Field.the-variants.{Opcode, ReadAddress, FastAddress, WriteAddress, Dummy, Data, StatusByte}
+use Rattle.selection.specs.declared.phase.Phase.{Phase}
+use Rattle.selection.specs.declared.phase.Phase.the-variants.{Rest, Deaf, Taking, Showing, Waiting}
+use Rattle.selection.specs.declared.phase.Source.the-variants.{Memory, Register, Identity}
+use Rattle.selection.specs.Opcode.{commandOf}
+use Rattle.selection.specs.Phase.{width, begun, filled, afterRise}
 use Rattle.ledger.specs.Bits.{numberAfter, number, Field as Bits, short, whole, put, field}
 use Rattle.ledger.specs.SpiLedger.{command, opcodeRead, reading, addressIn}
 use Rattle.ledger.specs.SpiAnswers.{Output, nothing, byte, bitShown, readShows}

@@ -15,11 +15,11 @@ use Rattle.parts.specs.declared.status.Status.{Status}
 use Rattle.parts.specs.Numbers.{answerNumber, levelOf}
 use Rattle.parts.specs.Status.{statusByte}
 use Rattle.serial.specs.Address.{nextAddress}
-use Rattle.spi.specs.declared.phase.Phase.{Phase}
-use Rattle.spi.specs.declared.phase.Phase.the-variants.{Showing}
-use Rattle.spi.specs.declared.phase.Source.{Source}
-use Rattle.spi.specs.declared.phase.Source.the-variants.{Memory, Register, Identity}
-use Rattle.spi.specs.Phase.{nextSource}
+use Rattle.selection.specs.declared.phase.Phase.{Phase}
+use Rattle.selection.specs.declared.phase.Phase.the-variants.{Showing}
+use Rattle.selection.specs.declared.phase.Source.{Source}
+use Rattle.selection.specs.declared.phase.Source.the-variants.{Memory, Register, Identity}
+use Rattle.selection.specs.Phase.{nextSource}
 use Rattle.spi.specs.Show.{shownBit, afterFall}
 use Rattle.ledger.specs.SpiAnswers.{Output, nothing, byte, bitShown}
 use Rattle.ledger.proofs.SpiReads.{phaseAfter}

@@ -10,14 +10,14 @@ use Rattle.serial.specs.Address.{nextAddress}
 use Rattle.serial.specs.Bits.{bitAt}
 use Rattle.trace.specs.declared.event.Event.{Event}
 use Rattle.trace.specs.declared.event.Event.the-variants.{SpiPowerOn, I2cPowerOn, PowerOff, Sample, Expected}
-use Rattle.i2c.specs.declared.buffer.AddressBuffer.{AddressBuffer}
-use Rattle.i2c.specs.declared.edge.Edge.{Edge}
-use Rattle.i2c.specs.declared.edge.Edge.the-variants.{Start, Stop, Rise, Fall, Quiet}
-use Rattle.i2c.specs.declared.word.DeviceWord.{DeviceWord}
-use Rattle.i2c.specs.declared.word.DeviceWord.the-variants.{ReadWord, WriteWord, OtherWord}
-use Rattle.i2c.specs.Buffer.{joined, readAddress}
-use Rattle.i2c.specs.Levels.{levelsOf}
-use Rattle.i2c.specs.Word.{wordOf}
+use Rattle.transfer.specs.declared.buffer.AddressBuffer.{AddressBuffer}
+use Rattle.transfer.specs.declared.edge.Edge.{Edge}
+use Rattle.transfer.specs.declared.edge.Edge.the-variants.{Start, Stop, Rise, Fall, Quiet}
+use Rattle.transfer.specs.declared.word.DeviceWord.{DeviceWord}
+use Rattle.transfer.specs.declared.word.DeviceWord.the-variants.{ReadWord, WriteWord, OtherWord}
+use Rattle.transfer.specs.Buffer.{joined, readAddress}
+use Rattle.transfer.specs.Levels.{levelsOf}
+use Rattle.transfer.specs.Word.{wordOf}
 use Rattle.ledger.specs.Bits.{number}
 use Rattle.ledger.specs.Stores.{stored}
 use Rattle.ledger.specs.History.{Entry}

@@ -8,15 +8,15 @@ use Rattle.parts.specs.declared.part.Part.{Part}
 use Rattle.serial.specs.Address.{nextAddress}
 use Rattle.trace.specs.declared.event.Event.{Event}
 use Rattle.trace.specs.declared.event.Event.the-variants.{SpiPowerOn, I2cPowerOn, PowerOff, Sample, Expected}
-use Rattle.i2c.specs.declared.edge.Edge.{Edge}
-use Rattle.i2c.specs.declared.edge.Edge.the-variants.{Start, Stop, Rise, Fall, Quiet}
-use Rattle.i2c.specs.declared.levels.Levels.{Levels}
-use Rattle.i2c.specs.declared.word.DeviceWord.{DeviceWord}
-use Rattle.i2c.specs.declared.word.DeviceWord.the-variants.{ReadWord, WriteWord, OtherWord}
-use Rattle.i2c.specs.Buffer.{joined}
-use Rattle.i2c.specs.Edge.{edgeOn}
-use Rattle.i2c.specs.Levels.{levelsOf}
-use Rattle.i2c.specs.Word.{wordOf}
+use Rattle.transfer.specs.declared.edge.Edge.{Edge}
+use Rattle.transfer.specs.declared.edge.Edge.the-variants.{Start, Stop, Rise, Fall, Quiet}
+use Rattle.transfer.specs.declared.levels.Levels.{Levels}
+use Rattle.transfer.specs.declared.word.DeviceWord.{DeviceWord}
+use Rattle.transfer.specs.declared.word.DeviceWord.the-variants.{ReadWord, WriteWord, OtherWord}
+use Rattle.transfer.specs.Buffer.{joined}
+use Rattle.transfer.specs.Edge.{edgeOn}
+use Rattle.transfer.specs.Levels.{levelsOf}
+use Rattle.transfer.specs.Word.{wordOf}
 use Rattle.ledger.specs.Bits.{number}
 use Rattle.ledger.specs.Stores.{Store}
 use Rattle.ledger.specs.History.{Entry}

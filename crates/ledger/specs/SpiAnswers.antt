@@ -10,13 +10,13 @@ use Rattle.parts.specs.declared.status.Status.{Status}
 use Rattle.parts.specs.Status.{statusByte}
 use Rattle.trace.specs.declared.event.Event.{Event}
 use Rattle.trace.specs.declared.event.Event.the-variants.{SpiPowerOn, I2cPowerOn, PowerOff, Sample, Expected}
-use Rattle.spi.specs.declared.edge.Edge.{Edge}
-use Rattle.spi.specs.declared.edge.Edge.the-variants.{Select, Deselect, Rise, Fall, Quiet}
-use Rattle.spi.specs.declared.levels.Levels.{Levels}
-use Rattle.spi.specs.declared.opcode.Command.{Command}
-use Rattle.spi.specs.declared.opcode.Command.the-variants.{WREN, WRDI, RDSR, WRSR, READ, WRITE, FSTRD, RDID, SLEEP, Unknown}
-use Rattle.spi.specs.Edge.{edgeOf}
-use Rattle.spi.specs.Levels.{levelsOf}
+use Rattle.selection.specs.declared.edge.Edge.{Edge}
+use Rattle.selection.specs.declared.edge.Edge.the-variants.{Select, Deselect, Rise, Fall, Quiet}
+use Rattle.selection.specs.declared.levels.Levels.{Levels}
+use Rattle.selection.specs.declared.opcode.Command.{Command}
+use Rattle.selection.specs.declared.opcode.Command.the-variants.{WREN, WRDI, RDSR, WRSR, READ, WRITE, FSTRD, RDID, SLEEP, Unknown}
+use Rattle.selection.specs.Edge.{edgeOf}
+use Rattle.selection.specs.Levels.{levelsOf}
 use Rattle.ledger.specs.Stores.{stored}
 use Rattle.ledger.specs.History.{Entry}
 use Rattle.ledger.specs.SpiLedger.{unended, ended, Item, powerOn, powerOff, selection, lastSample, items, Reading, partial, command, reading, dataAddress, asleep, heard, enabled, SavedBits, register, bits, writes}

@@ -10,14 +10,14 @@ use Rattle.parts.specs.Status.{protectedStart}
 use Rattle.serial.specs.Address.{nextAddress}
 use Rattle.trace.specs.declared.event.Event.{Event}
 use Rattle.trace.specs.declared.event.Event.the-variants.{SpiPowerOn, I2cPowerOn, PowerOff, Sample, Expected}
-use Rattle.spi.specs.declared.edge.Edge.{Edge}
-use Rattle.spi.specs.declared.edge.Edge.the-variants.{Select, Deselect, Rise, Fall, Quiet}
-use Rattle.spi.specs.declared.levels.Levels.{Levels}
-use Rattle.spi.specs.declared.opcode.Command.{Command}
-use Rattle.spi.specs.declared.opcode.Command.the-variants.{WREN, WRDI, RDSR, WRSR, READ, WRITE, FSTRD, RDID, SLEEP, Unknown}
-use Rattle.spi.specs.Edge.{edgeOf}
-use Rattle.spi.specs.Levels.{levelsOf}
-use Rattle.spi.specs.Opcode.{commandOf}
+use Rattle.selection.specs.declared.edge.Edge.{Edge}
+use Rattle.selection.specs.declared.edge.Edge.the-variants.{Select, Deselect, Rise, Fall, Quiet}
+use Rattle.selection.specs.declared.levels.Levels.{Levels}
+use Rattle.selection.specs.declared.opcode.Command.{Command}
+use Rattle.selection.specs.declared.opcode.Command.the-variants.{WREN, WRDI, RDSR, WRSR, READ, WRITE, FSTRD, RDID, SLEEP, Unknown}
+use Rattle.selection.specs.Edge.{edgeOf}
+use Rattle.selection.specs.Levels.{levelsOf}
+use Rattle.selection.specs.Opcode.{commandOf}
 use Rattle.ledger.specs.Bits.{number, Field, short, whole, field, bytes}
 use Rattle.ledger.specs.Stores.{Store}
 use Rattle.ledger.specs.History.{Entry}

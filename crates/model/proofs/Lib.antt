@@ -1,8 +1,1 @@
-pub mod EventLaws
-pub mod TakeLaws
-pub mod RunLaws
-pub mod SamplesRun
-pub mod RunRule
-pub mod RunCounts
-pub mod Examples
-pub mod SetsLaws
+pub mod OneLaws

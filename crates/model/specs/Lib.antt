@@ -1,3 +1,1 @@
 pub mod Make
-pub mod Event
-pub mod Run

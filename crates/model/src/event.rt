@@ -1,53 +1,29 @@
 // One event, any bytes on any state and memory.
 ghost use mathlib.Core.Path.{_≡_};
-ghost use Rattle.parts.specs.Table.{partOf};
-ghost use Rattle.trace.specs.declared.read.Read.the-variants.{Whole};
-ghost use Rattle.trace.specs.Read.{readOf};
-ghost use Rattle.chip.specs.Event.{Sound, advanceOf};
-ghost use Rattle.model.specs.Event.{checkedEvent, eventOf};
+ghost use Rattle.chip.specs.Check.{Sound};
+ghost use Rattle.runs.specs.Event.{checkedEvent, eventOf};
 use chip::check::Verdict;
-use chip::event::Answered;
 use chip::model::Model;
-use parts::part::Part;
-use trace::event::Event;
-use trace::read::Read;
+use events::event::Answered;
+use parts::refusal::Refusal;
 
-// An event that was read from these bytes: of a part under power a sample or an expected answer that holds, or another event.
-fn take(
-    part: Part,
-    model: Model,
-    event: Event,
-    taken: usize,
-    bytes: &[u8],
-    memory: &mut [u8],
-) -> Answered
-    requires { ⌜ (part ≡ partOf (model .part)) × Sound model (now memory) × (readOf part (now bytes) ≡ Whole event taken) ⌝ }
-    ensures { λ r. ⌜ r ≡ advanceOf model (now (memory .entry)) event .result ⌝ }
-    ensures { λ r. ⌜ now (memory .exit) ≡ advanceOf model (now (memory .entry)) event .memory ⌝ }
-{
-    let mut answers = [2u8; 1];
-    let reached = samples::consecutive::samples(part, model, bytes, 1, 0, 0, memory, &mut answers);
-    if reached.count == 0 {
-        return chip::event::apart(part, model, event);
-    }
-    let next = reached.model;
-    Answered {
-        number: 0,
-        answer: answers[0],
-        model: next,
-    }
-}
-
-// Refused with 4 to 9, or taken.
+// Refused with 4 to 9, or taken: a run of one event, which leaves the answer at 2 if it is refused. Without bytes a run is empty, and an
+// event is cut short.
 fn checked_event(model: Model, bytes: &[u8], memory: &mut [u8]) -> Answered
     requires { ⌜ Sound model (now memory) ⌝ }
     ensures { λ r. ⌜ r ≡ checkedEvent model (now (memory .entry)) (now (bytes .entry)) .result ⌝ }
     ensures { λ r. ⌜ now (memory .exit) ≡ checkedEvent model (now (memory .entry)) (now (bytes .entry)) .memory ⌝ }
 {
-    let part = parts::part::part_of(model.part as usize);
-    match trace::read::read_event(part, bytes) {
-        Read::Whole { event, taken } => take(part, model, event, taken, bytes, memory),
-        Read::Refused { refusal } => chip::event::refuse(refusal, model),
+    if bytes.len() == 0 {
+        return events::event::refuse(Refusal::Truncated, model);
+    }
+    let mut answers = [2u8; 1];
+    let ran = runs::run::replay_checked(model, bytes, 1, memory, &mut answers);
+    let next = ran.model;
+    Answered {
+        number: ran.number,
+        answer: answers[0],
+        model: next,
     }
 }
 
@@ -58,6 +34,6 @@ pub fn event(model: Model, bytes: &[u8], memory: &mut [u8]) -> Answered
 {
     match chip::check::check(model, memory.len()) {
         Verdict::Passed => checked_event(model, bytes, memory),
-        Verdict::Failed { refusal } => chip::event::refuse(refusal, model),
+        Verdict::Failed { refusal } => events::event::refuse(refusal, model),
     }
 }

@@ -16,20 +16,20 @@ use Rattle.trace.specs.declared.event.Event.{Event}
 use Rattle.trace.specs.declared.event.Event.the-variants.{SpiPowerOn, I2cPowerOn, PowerOff, Sample, Expected}
 use Rattle.trace.proofs.SuitLaws.{Suits}
 use Rattle.spi.specs.declared.sample.Spi as SpiState
-use Rattle.spi.specs.declared.edge.Edge.{Edge}
-use Rattle.spi.specs.declared.edge.Edge.the-variants.{Select, Deselect, Rise, Fall, Quiet}
-use Rattle.spi.specs.declared.levels.Levels as SpiLevel
-use Rattle.spi.specs.Edge.{edgeOf}
-use Rattle.spi.specs.Levels as SpiLevels
+use Rattle.selection.specs.declared.edge.Edge.{Edge}
+use Rattle.selection.specs.declared.edge.Edge.the-variants.{Select, Deselect, Rise, Fall, Quiet}
+use Rattle.selection.specs.declared.levels.Levels as SpiLevel
+use Rattle.selection.specs.Edge.{edgeOf}
+use Rattle.selection.specs.Levels as SpiLevels
 use Rattle.spi.specs.Sample as SpiSample
 use Rattle.spi.specs.Show as SpiShow
 use Rattle.i2c.specs.declared.sample.I2c as I2cState
-use Rattle.i2c.specs.Levels as I2cLevels
+use Rattle.transfer.specs.Levels as I2cLevels
 use Rattle.i2c.specs.Sample as I2cSample
 use Rattle.chip.specs.declared.model.BusState.{BusState}
 use Rattle.chip.specs.declared.model.BusState.the-variants.{Unpowered, SpiOn, I2cOn}
 use Rattle.chip.specs.declared.model.Model.{Model}
-use Rattle.chip.specs.Event.{Outcome, keeping, accepted, refused, onUnpowered, onSpi, onI2c, advanceOn}
+use Rattle.events.specs.Event.{Outcome, keeping, accepted, refused, onUnpowered, onSpi, onI2c, advanceOn}
 use Rattle.chip.specs.Model.{modelOf}
 use Rattle.ledger.specs.History.{Entry}
 use Rattle.ledger.specs.Stores.{stored}

@@ -13,13 +13,13 @@ use Rattle.trace.specs.declared.event.Event.the-variants.{SpiPowerOn, I2cPowerO
 use Rattle.trace.specs.declared.read.Read.{Read}
 use Rattle.trace.specs.declared.read.Read.the-variants.{Whole, Refused}
 use Rattle.trace.specs.Read.{readOf}
-use Rattle.spi.specs.declared.edge.Edge.{Edge}
-use Rattle.spi.specs.declared.edge.Edge.the-variants.{Select, Deselect, Rise, Fall, Quiet}
-use Rattle.spi.specs.declared.opcode.Command.the-variants.{WREN, WRDI, RDSR, WRSR, READ, WRITE, FSTRD, RDID, SLEEP, Unknown}
-use Rattle.spi.specs.Edge.{edgeOf}
-use Rattle.spi.specs.Levels.{levelsOf}
+use Rattle.selection.specs.declared.edge.Edge.{Edge}
+use Rattle.selection.specs.declared.edge.Edge.the-variants.{Select, Deselect, Rise, Fall, Quiet}
+use Rattle.selection.specs.declared.opcode.Command.the-variants.{WREN, WRDI, RDSR, WRSR, READ, WRITE, FSTRD, RDID, SLEEP, Unknown}
+use Rattle.selection.specs.Edge.{edgeOf}
+use Rattle.selection.specs.Levels.{levelsOf}
 use Rattle.chip.specs.declared.model.Model.{Model}
-use Rattle.model.specs.Event.{eventOf}
+use Rattle.runs.specs.Event.{eventOf}
 use Rattle.ledger.specs.Bits as Bits
 use Rattle.ledger.specs.History.{Entry}
 use Rattle.ledger.specs.SpiLedger.{unended, ended, Item, powerOn, powerOff, selection, withBit, closed, noted, lastSample, items, Reading, partial, command, reading, asleep, heard, enabled, SavedBits, noBits, bitsIn, statusWrite, bitsAfter, bits}

@@ -15,12 +15,12 @@ use Rattle.serial.specs.declared.write.Write.the-variants.{Nothing, Byte}
 use Rattle.trace.specs.declared.read.Read.{Read}
 use Rattle.trace.specs.declared.read.Read.the-variants.{Whole, Refused}
 use Rattle.trace.specs.Read.{readOf}
-use Rattle.spi.specs.declared.opcode.Command.{Command}
-use Rattle.spi.specs.declared.opcode.Command.the-variants.{WREN, WRDI, RDSR, WRSR, READ, WRITE, FSTRD, RDID, SLEEP, Unknown}
+use Rattle.selection.specs.declared.opcode.Command.{Command}
+use Rattle.selection.specs.declared.opcode.Command.the-variants.{WREN, WRDI, RDSR, WRSR, READ, WRITE, FSTRD, RDID, SLEEP, Unknown}
 use Rattle.chip.specs.declared.model.BusState.the-variants.{Unpowered}
 use Rattle.chip.specs.declared.model.Model.{Model}
 use Rattle.chip.proofs.CheckLaws.{model-in}
-use Rattle.model.specs.Event.{eventOf}
+use Rattle.runs.specs.Event.{eventOf}
 use Rattle.ledger.specs.Bits.{bytes}
 use Rattle.ledger.specs.History.{Entry}
 use Rattle.ledger.specs.Stores.{Store, stored}

@@ -10,19 +10,19 @@ use Rattle.serial.specs.declared.write.Write.{Write}
 use Rattle.serial.specs.declared.write.Write.the-variants.{Nothing}
 use Rattle.trace.specs.declared.event.Event.{Event}
 use Rattle.trace.specs.declared.event.Event.the-variants.{SpiPowerOn, I2cPowerOn, PowerOff, Sample, Expected}
-use Rattle.spi.specs.declared.edge.Edge as SpiEdge
-use Rattle.spi.specs.declared.edge.Edge.the-variants as SpiEdges
-use Rattle.spi.specs.declared.phase.Field.the-variants.{Opcode}
-use Rattle.spi.specs.declared.phase.Phase.the-variants as SpiPhases
-use Rattle.spi.specs.Edge as SpiEdgeOf
-use Rattle.spi.specs.Levels as SpiLevels
+use Rattle.selection.specs.declared.edge.Edge as SpiEdge
+use Rattle.selection.specs.declared.edge.Edge.the-variants as SpiEdges
+use Rattle.selection.specs.declared.phase.Field.the-variants.{Opcode}
+use Rattle.selection.specs.declared.phase.Phase.the-variants as SpiPhases
+use Rattle.selection.specs.Edge as SpiEdgeOf
+use Rattle.selection.specs.Levels as SpiLevels
 use Rattle.spi.specs.Store as SpiStore
-use Rattle.i2c.specs.declared.buffer.AddressBuffer.{AddressBuffer}
-use Rattle.i2c.specs.declared.edge.Edge as I2cEdge
-use Rattle.i2c.specs.declared.edge.Edge.the-variants as I2cEdges
-use Rattle.i2c.specs.declared.phase.Field.the-variants.{Word}
-use Rattle.i2c.specs.declared.phase.Phase.the-variants as I2cPhases
-use Rattle.i2c.specs.Levels as I2cLevels
+use Rattle.transfer.specs.declared.buffer.AddressBuffer.{AddressBuffer}
+use Rattle.transfer.specs.declared.edge.Edge as I2cEdge
+use Rattle.transfer.specs.declared.edge.Edge.the-variants as I2cEdges
+use Rattle.transfer.specs.declared.phase.Field.the-variants.{Word}
+use Rattle.transfer.specs.declared.phase.Phase.the-variants as I2cPhases
+use Rattle.transfer.specs.Levels as I2cLevels
 use Rattle.i2c.specs.Store as I2cStore
 use Rattle.chip.specs.declared.model.Model.{Model}
 use Rattle.ledger.specs.History.{Entry}

@@ -15,12 +15,13 @@ use Rattle.trace.specs.declared.event.Event.{Event}
 use Rattle.trace.specs.declared.event.Event.the-variants.{SpiPowerOn, I2cPowerOn, PowerOff, Sample, Expected}
 use Rattle.trace.proofs.SuitLaws.{Suits}
 use Rattle.i2c.specs.declared.sample.I2c.{I2c}
-use Rattle.i2c.specs.Levels.{levelsOf}
+use Rattle.transfer.specs.Levels.{levelsOf}
 use Rattle.i2c.specs.Sample.{answerOf, stepOf}
 use Rattle.chip.specs.declared.model.BusState.{BusState}
 use Rattle.chip.specs.declared.model.BusState.the-variants.{Unpowered, SpiOn, I2cOn}
 use Rattle.chip.specs.declared.model.Model.{Model}
-use Rattle.chip.specs.Event.{Outcome, keeping, accepted, refused, onUnpowered, onI2c, advanceOn, advanceOf, Sound}
+use Rattle.events.specs.Event.{Outcome, keeping, accepted, refused, onUnpowered, onI2c, advanceOn, advanceOf}
+use Rattle.chip.specs.Check.{Sound}
 use Rattle.chip.specs.Model.{modelOf}
 use Rattle.chip.proofs.CheckLaws.{sound-in, i2c-ready}
 use Rattle.ledger.specs.History.{Entry}

@@ -27,10 +27,10 @@ use Rattle.chip.specs.declared.model.BusState.the-variants.{Unpowered, SpiOn, I
 use Rattle.chip.specs.declared.model.Model.{Model}
 use Rattle.chip.specs.Check.{checkOf}
 use Rattle.chip.specs.Model.{unpowered}
-use Rattle.chip.specs.Event.{Outcome, keeping, accepted, refused, expected, advanceOn, advanceOf}
+use Rattle.events.specs.Event.{Outcome, keeping, accepted, refused, expected, advanceOn, advanceOf}
 use Rattle.model.specs.declared.make.Made.{Made}
 use Rattle.model.specs.Make.{statusOf, makeOf}
-use Rattle.model.specs.Event.{onRead, onVerdict, eventOf}
+use Rattle.runs.specs.Event.{onRead, onVerdict, eventOf}
 use Rattle.ledger.specs.History.{Entry}
 use Rattle.ledger.specs.I2cAnswers.{pullAnswer, pulls, presentAnswer, i2cAnswer}
 use Rattle.promise.specs.Lists.{modelAfter, memoryAfter}

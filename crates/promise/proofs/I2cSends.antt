@@ -8,10 +8,10 @@ use lib.ListN.{length, getD}
 use Rattle.parts.specs.declared.part.Part.{Part}
 use Rattle.parts.specs.Table.{isSpi, partOf}
 use Rattle.parts.proofs.Rows.{part-fits}
-use Rattle.i2c.specs.declared.word.DeviceWord.the-variants.{ReadWord}
-use Rattle.i2c.specs.Buffer.{readAddress}
-use Rattle.i2c.specs.Word.{wordOf}
-use Rattle.i2c.proofs.BufferLaws.{read-within}
+use Rattle.transfer.specs.declared.word.DeviceWord.the-variants.{ReadWord}
+use Rattle.transfer.specs.Buffer.{readAddress}
+use Rattle.transfer.specs.Word.{wordOf}
+use Rattle.transfer.proofs.BufferLaws.{read-within}
 use Rattle.chip.specs.declared.model.Model.{Model}
 use Rattle.chip.proofs.CheckLaws.{model-in}
 use Rattle.serial.specs.Bits.{bitAt}

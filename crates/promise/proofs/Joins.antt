@@ -4,7 +4,7 @@ use mathlib.Core.Path.{_≡_, refl}
 use mathlib.Core.List.{List, [], _∷_, _++_}
 use Rattle.parts.specs.declared.part.Part.{Part}
 use Rattle.chip.specs.declared.model.Model.{Model}
-use Rattle.model.specs.Event.{eventOf}
+use Rattle.runs.specs.Event.{eventOf}
 use Rattle.ledger.specs.History.{Entry}
 use Rattle.promise.specs.Lists.{shown, seen, modelAfter, memoryAfter}
 use Rattle.promise.specs.Fed.{fedOne, fedFrom}

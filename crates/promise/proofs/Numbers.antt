@@ -25,11 +25,11 @@ use Rattle.chip.specs.declared.check.Verdict.the-variants.{Passed, Failed}
 use Rattle.chip.specs.declared.model.BusState.{BusState}
 use Rattle.chip.specs.declared.model.BusState.the-variants.{Unpowered, SpiOn, I2cOn}
 use Rattle.chip.specs.declared.model.Model.{Model}
-use Rattle.chip.specs.Event.{keeping, accepted, refused, expected, advanceOn, advanceOf}
-use Rattle.model.specs.Event as One
-use Rattle.model.specs.Event.{onRead, eventOf}
-use Rattle.model.specs.Run as Many
-use Rattle.model.specs.Run.{Run, stop, after, loopOf, runOf}
+use Rattle.events.specs.Event.{keeping, accepted, refused, expected, advanceOn, advanceOf}
+use Rattle.runs.specs.Event as One
+use Rattle.runs.specs.Event.{onRead, eventOf}
+use Rattle.runs.specs.Run as Many
+use Rattle.runs.specs.Run.{Run, stop, after, loopOf, runOf}
 use Rattle.promise.proofs.Reached.{Reached, by-event, reached-check}
 
 -- neither 1 nor 2

@@ -19,13 +19,13 @@ use Rattle.chip.specs.declared.check.Verdict.{Verdict}
 use Rattle.chip.specs.declared.check.Verdict.the-variants.{Passed, Failed}
 use Rattle.chip.specs.declared.model.BusState.the-variants.{Unpowered}
 use Rattle.chip.specs.declared.model.Model.{Model}
-use Rattle.chip.specs.Check.{noBits, modelIn, busIn, checkOf}
-use Rattle.chip.specs.Event.{advanceOf, Sound}
+use Rattle.chip.specs.Check.{noBits, modelIn, busIn, checkOf, Sound}
+use Rattle.events.specs.Event.{advanceOf}
 use Rattle.chip.specs.Model.{unpowered}
 use Rattle.chip.proofs.CheckLaws.{model-test, sound-in}
-use Rattle.chip.proofs.Keeps.{keeps}
+use Rattle.events.proofs.Keeps.{keeps}
 use Rattle.model.specs.declared.make.Made.{Made}
-use Rattle.model.specs.Event.{onRead, onVerdict, eventOf}
+use Rattle.runs.specs.Event.{onRead, onVerdict, eventOf}
 use Rattle.model.specs.Make.{statusOf, makeIn, makeOf}
 use Rattle.promise.specs.Lists.{modelAfter}
 

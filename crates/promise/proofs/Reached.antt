@@ -13,9 +13,9 @@ use Rattle.chip.specs.declared.check.Verdict.{Verdict}
 use Rattle.chip.specs.declared.check.Verdict.the-variants.{Passed, Failed}
 use Rattle.chip.specs.declared.model.Model.{Model}
 use Rattle.chip.specs.Check.{modelIn, busIn, checkOf}
-use Rattle.model.specs.Event.{eventOf}
+use Rattle.runs.specs.Event.{eventOf}
 use Rattle.model.specs.Make.{makeOf}
-use Rattle.model.specs.Run.{Run, stop, after, loopOf, onVerdict, runOf}
+use Rattle.runs.specs.Run.{Run, stop, after, loopOf, onVerdict, runOf}
 use Rattle.promise.proofs.Ranges.{InRange, made-in, event-in}
 
 -- by a making with any numbers, then any events and runs, each on any memory

@@ -18,9 +18,9 @@ use Rattle.trace.proofs.SuitLaws.{Suits, suits}
 use Rattle.chip.specs.declared.check.Verdict.{Verdict}
 use Rattle.chip.specs.declared.check.Verdict.the-variants.{Passed, Failed}
 use Rattle.chip.specs.declared.model.Model.{Model}
-use Rattle.chip.specs.Check.{checkOf}
-use Rattle.chip.specs.Event.{Outcome, keeping, refused, advanceOf, Sound}
-use Rattle.model.specs.Event.{onRead, onVerdict, eventOf}
+use Rattle.chip.specs.Check.{checkOf, Sound}
+use Rattle.events.specs.Event.{Outcome, keeping, refused, advanceOf}
+use Rattle.runs.specs.Event.{onRead, onVerdict, eventOf}
 use Rattle.ledger.specs.History.{Entry}
 use Rattle.promise.specs.Lists.{shown, seen, modelAfter, memoryAfter}
 use Rattle.promise.specs.Fed.{fedOne, fedFrom}

@@ -17,19 +17,20 @@ use Rattle.trace.specs.declared.event.Event.the-variants.{SpiPowerOn, I2cPowerO
 use Rattle.trace.specs.declared.read.Read.the-variants.{Whole}
 use Rattle.trace.specs.Read.{readOf}
 use Rattle.trace.proofs.SuitLaws.{Suits}
-use Rattle.spi.specs.declared.edge.Edge.{Edge}
-use Rattle.spi.specs.declared.edge.Edge.the-variants.{Select, Deselect, Rise, Fall, Quiet}
-use Rattle.spi.specs.declared.levels.Levels.{Levels}
+use Rattle.selection.specs.declared.edge.Edge.{Edge}
+use Rattle.selection.specs.declared.edge.Edge.the-variants.{Select, Deselect, Rise, Fall, Quiet}
+use Rattle.selection.specs.declared.levels.Levels.{Levels}
 use Rattle.spi.specs.declared.sample.Spi.{Spi}
 use Rattle.spi.specs.Sample as SpiSample
-use Rattle.spi.specs.Edge.{edgeOf}
-use Rattle.spi.specs.Levels.{levelsOf}
+use Rattle.selection.specs.Edge.{edgeOf}
+use Rattle.selection.specs.Levels.{levelsOf}
 use Rattle.spi.specs.Sample.{stepOn, stepOf}
 use Rattle.spi.specs.Show.{answerAt}
 use Rattle.chip.specs.declared.model.BusState.{BusState}
 use Rattle.chip.specs.declared.model.BusState.the-variants.{Unpowered, SpiOn, I2cOn}
 use Rattle.chip.specs.declared.model.Model.{Model}
-use Rattle.chip.specs.Event.{Outcome, keeping, accepted, refused, onUnpowered, onSpi, advanceOn, advanceOf, Sound}
+use Rattle.events.specs.Event.{Outcome, keeping, accepted, refused, onUnpowered, onSpi, advanceOn, advanceOf}
+use Rattle.chip.specs.Check.{Sound}
 use Rattle.chip.specs.Model.{modelOf}
 use Rattle.chip.proofs.CheckLaws.{model-in}
 use Rattle.ledger.specs.History.{Entry}

@@ -12,7 +12,7 @@ use Rattle.parts.specs.declared.part.Part.{Part}
 use Rattle.parts.specs.declared.status.Status.{Status}
 use Rattle.parts.specs.Status.{bit, statusByte}
 use Rattle.parts.specs.Table.{isSpi, partOf}
-use Rattle.spi.specs.declared.opcode.Command.the-variants.{RDSR, READ}
+use Rattle.selection.specs.declared.opcode.Command.the-variants.{RDSR, READ}
 use Rattle.chip.specs.declared.model.Model.{Model}
 use Rattle.ledger.specs.Bits.{number}
 use Rattle.ledger.specs.SpiLedger.{Item, command, reading}

@@ -6,11 +6,11 @@ use mathlib.Core.Bool.{Bool, true, false}
 use mathlib.Core.List.{List, [], _∷_, _++_}
 use lib.ListN.{replicate}
 use Rattle.trace.specs.Read.{readOf}
-use Rattle.spi.specs.Opcode.{commandOf}
+use Rattle.selection.specs.Opcode.{commandOf}
 use Rattle.spi.specs.Sample.{stepOf}
 use Rattle.chip.specs.Check.{checkOf}
-use Rattle.chip.specs.Event.{advanceOf}
-use Rattle.model.specs.Event.{eventOf}
+use Rattle.events.specs.Event.{advanceOf}
+use Rattle.runs.specs.Event.{eventOf}
 use Rattle.model.specs.Make.{makeOf}
 use Rattle.ledger.specs.SpiLedger.{ended, powerOn, selection}
 use Rattle.promise.proofs.SpiAnswersShown.{sample, clocks, Clocked}

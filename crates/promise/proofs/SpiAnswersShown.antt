@@ -18,16 +18,16 @@ use Rattle.trace.specs.declared.event.Event.the-variants.{Sample}
 use Rattle.trace.specs.declared.read.Read.the-variants.{Whole}
 use Rattle.trace.specs.Event.{sampleLimit}
 use Rattle.trace.specs.Read.{readOf}
-use Rattle.spi.specs.declared.edge.Edge.the-variants.{Rise, Fall}
-use Rattle.spi.specs.declared.levels.Levels.{Levels}
-use Rattle.spi.specs.declared.opcode.Command.the-variants.{RDSR, READ}
-use Rattle.spi.specs.Edge.{edgeOf}
-use Rattle.spi.specs.Levels.{levelsOf}
+use Rattle.selection.specs.declared.edge.Edge.the-variants.{Rise, Fall}
+use Rattle.selection.specs.declared.levels.Levels.{Levels}
+use Rattle.selection.specs.declared.opcode.Command.the-variants.{RDSR, READ}
+use Rattle.selection.specs.Edge.{edgeOf}
+use Rattle.selection.specs.Levels.{levelsOf}
 use Rattle.chip.specs.declared.model.BusState.{BusState}
 use Rattle.chip.specs.declared.model.BusState.the-variants.{Unpowered, SpiOn, I2cOn}
 use Rattle.chip.specs.declared.model.Model.{Model}
-use Rattle.chip.specs.Event.{advanceOf}
-use Rattle.model.specs.Event.{eventOf}
+use Rattle.events.specs.Event.{advanceOf}
+use Rattle.runs.specs.Event.{eventOf}
 use Rattle.ledger.specs.Bits.{number}
 use Rattle.ledger.specs.History.{Entry}
 use Rattle.ledger.specs.SpiLedger.{unended, Item, selection, lastSample, items, command, reading, asleep, SavedBits}

@@ -20,25 +20,11 @@ use Rattle.chip.specs.declared.model.BusState.{BusState}
 use Rattle.chip.specs.declared.model.BusState.the-variants.{Unpowered, SpiOn, I2cOn}
 use Rattle.chip.specs.declared.model.Model.{Model}
 use Rattle.chip.specs.Check.{checkOf}
-use Rattle.chip.specs.Event.{advanceOn, advanceOf}
-use Rattle.chip.proofs.Stays.{Stays, unchanged, stays}
-use Rattle.model.specs.Event.{onRead, onVerdict, eventOf}
+use Rattle.events.specs.Event.{advanceOn, advanceOf}
+use Rattle.runs.specs.Event.{onRead, onVerdict, eventOf}
 use Rattle.promise.specs.Promise.{cut}
 
 module _ (s : Model) (m : List ℕ) where
-  -- of any bytes
-  pub event-stays : (t : List ℕ) → Stays s m (eventOf s m t)
-  unfolding eventOf
-  event-stays t = by (checkOf s (length m))
-    where
-      by-read : (r : Read) → Stays s m (onRead r s m)
-      by-read (Whole e n) = stays s m e
-      by-read (Refused r) = unchanged s m _ 2
-
-      by : (v : Verdict) → Stays s m (onVerdict v s m t)
-      by Passed = by-read (readOf (partOf (s .part)) t)
-      by (Failed r) = unchanged s m _ 2
-
   -- an event is accepted only if the bytes hold a whole one, so every accepted event is fed
   pub accepted-whole : (t : List ℕ) → eqb (eventOf s m t .result .number) 0 ≡ true → (e : Event) × (n : ℕ) × readOf (partOf (s .part)) t ≡ Whole e n
   unfolding eventOf

@@ -20,12 +20,12 @@ use Rattle.chip.specs.declared.check.Verdict.the-variants.{Passed, Failed}
 use Rattle.chip.specs.declared.model.BusState.{BusState}
 use Rattle.chip.specs.declared.model.BusState.the-variants.{Unpowered, SpiOn, I2cOn}
 use Rattle.chip.specs.declared.model.Model.{Model}
-use Rattle.chip.specs.Check.{noBits, checkOf}
-use Rattle.chip.specs.Event.{Outcome, advanceOf, Sound}
+use Rattle.chip.specs.Check.{noBits, checkOf, Sound}
+use Rattle.events.specs.Event.{Outcome, advanceOf}
 use Rattle.chip.specs.Model.{modelOf}
 use Rattle.chip.proofs.CheckLaws.{model-in}
-use Rattle.chip.proofs.Keeps.{keeps}
-use Rattle.model.specs.Event.{onVerdict, eventOf}
+use Rattle.events.proofs.Keeps.{keeps}
+use Rattle.runs.specs.Event.{onVerdict, eventOf}
 use Rattle.ledger.specs.History.{Entry}
 use Rattle.ledger.specs.Stores.{stored}
 use Rattle.ledger.specs.SpiLedger.{register}
@@ -34,7 +34,7 @@ use Rattle.promise.specs.Ledger.{savedIn, ledgerStores, ledgerBits}
 use Rattle.promise.specs.Promise.{cut, historyOf}
 use Rattle.promise.proofs.Ranges.{InRange}
 use Rattle.promise.proofs.Runs.{entered, runs}
-use Rattle.chip.proofs.Stays.{stays}
+use Rattle.events.proofs.Stays.{stays}
 use Rattle.promise.proofs.Agrees.{i2c-unsaved, AgreesOn, memory-agrees, event-agrees}
 
 -- under power the tests have passed

@@ -5,8 +5,8 @@ use mathlib.Core.List.{List, [], _∷_, _++_}
 use Rattle.parts.specs.declared.part.Part.{Part}
 use Rattle.parts.specs.Table.{partOf}
 use Rattle.chip.specs.declared.model.Model.{Model}
-use Rattle.chip.specs.Event.{Outcome}
-use Rattle.model.specs.Event.{eventOf}
+use Rattle.events.specs.Event.{Outcome}
+use Rattle.runs.specs.Event.{eventOf}
 use Rattle.ledger.specs.History.{Entry}
 use Rattle.ledger.specs.I2cAnswers.{i2cAnswer, presentAnswer, pulls, pullAnswer}
 use Rattle.promise.specs.Lists.{modelAfter, memoryAfter}

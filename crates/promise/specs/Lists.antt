@@ -3,8 +3,8 @@
 use Prim.Native.Nat.{ℕ}
 use mathlib.Core.List.{List, [], _∷_}
 use Rattle.chip.specs.declared.model.Model.{Model}
-use Rattle.chip.specs.Event.{Outcome}
-use Rattle.model.specs.Event.{eventOf}
+use Rattle.events.specs.Event.{Outcome}
+use Rattle.runs.specs.Event.{eventOf}
 
 -- what an event shows: its number, its answer, and the memory after it
 pub record Seen : Type 0 where

@@ -6,7 +6,7 @@ use mathlib.Core.Bool.{true}
 use mathlib.Core.List.{List, [], _∷_, _++_}
 use Rattle.parts.specs.Table.{isSpi, partOf}
 use Rattle.chip.specs.declared.model.Model.{Model}
-use Rattle.model.specs.Event.{eventOf}
+use Rattle.runs.specs.Event.{eventOf}
 use Rattle.ledger.specs.SpiAnswers.{spiAnswer}
 use Rattle.promise.specs.Lists.{Seen, shown, modelAfter, memoryAfter}
 use Rattle.promise.specs.Ledger.{savedIn}

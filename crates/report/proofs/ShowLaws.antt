@@ -8,10 +8,10 @@ use lib.ListN.{length, take, replicate, length-replicate}
 use lib.Seq.{take-at, length-sets, sets, sets-eq}
 use borrow.Author.Tests.{le-ltb}
 use Rattle.model.specs.declared.make.Made.{Made}
-use Rattle.model.specs.declared.run.Ran.{Ran}
+use Rattle.runs.specs.declared.run.Ran.{Ran}
 use Rattle.model.specs.Make.{makeOf}
-use Rattle.model.specs.Run.{Run, ranOf, runOf}
-use Rattle.model.proofs.RunCounts.{Counted, run-counted}
+use Rattle.runs.specs.Run.{Run, ranOf, runOf}
+use Rattle.runs.proofs.RunCounts.{Counted, run-counted}
 use Rattle.report.specs.declared.show.Report.{Report}
 use Rattle.report.specs.Report.{unlimited, shownRun, reportOf, textOf, memoryOf}
 use Rattle.report.specs.Text.{text}

@@ -9,7 +9,7 @@ use native.Mathlib.Omega.{arith}
 use lib.Dec.{eqb}
 use lib.ListN.{length, drop, getD, length-append}
 use lib.Seq.{drop-cons, drop-length, sets}
-use Rattle.model.proofs.SetsLaws.{sets-append}
+use Rattle.runs.proofs.SetsLaws.{sets-append}
 use Rattle.report.specs.Text.{letter, piece, nextColumn, text}
 
 -- an answer takes one or two bytes

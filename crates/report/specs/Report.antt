@@ -5,7 +5,7 @@ use mathlib.Core.List.{List, []}
 use lib.Dec.{ltb}
 use lib.ListN.{length}
 use Rattle.model.specs.Make.{makeOf}
-use Rattle.model.specs.Run.{Run, runOf}
+use Rattle.runs.specs.Run.{Run, runOf}
 use Rattle.report.specs.declared.show.Report.{Report}
 use Rattle.report.specs.Text.{text}
 

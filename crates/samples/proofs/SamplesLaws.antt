@@ -18,8 +18,9 @@ use Rattle.trace.proofs.SampleLaws.{stays-long}
 use Rattle.trace.proofs.SuitLaws.{Suits}
 use Rattle.chip.specs.declared.model.BusState.the-variants.{Unpowered}
 use Rattle.chip.specs.declared.model.Model.{Model}
-use Rattle.chip.specs.Event.{Outcome, Sound}
-use Rattle.chip.proofs.Keeps.{keeps}
+use Rattle.events.specs.Event.{Outcome}
+use Rattle.chip.specs.Check.{Sound}
+use Rattle.events.proofs.Keeps.{keeps}
 use Rattle.samples.specs.declared.reached.Reached.{Reached}
 use Rattle.samples.specs.Samples.{Samples, none, one, staysOn, firstDone, samplesOf, reached, reachedBy, nextIs, firstSample}
 

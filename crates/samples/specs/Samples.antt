@@ -10,19 +10,19 @@ use Rattle.parts.specs.declared.part.Bus.the-variants.{Spi, I2c}
 use Rattle.parts.specs.Numbers.{answerNumber}
 use Rattle.trace.specs.Event.{sampleLimit}
 use Rattle.trace.specs.Sample.{staysFirst, firstEvent}
-use Rattle.spi.specs.declared.levels.Levels as SpiLevels
-use Rattle.spi.specs.declared.phase.Phase as SpiPhase
+use Rattle.selection.specs.declared.levels.Levels as SpiLevels
+use Rattle.selection.specs.declared.phase.Phase as SpiPhase
 use Rattle.spi.specs.declared.sample.Spi as SpiState
 use Rattle.spi.specs.Show as SpiShow
-use Rattle.i2c.specs.declared.buffer.AddressBuffer.{AddressBuffer}
-use Rattle.i2c.specs.declared.levels.Levels as I2cLevels
-use Rattle.i2c.specs.declared.phase.Phase as I2cPhase
+use Rattle.transfer.specs.declared.buffer.AddressBuffer.{AddressBuffer}
+use Rattle.transfer.specs.declared.levels.Levels as I2cLevels
+use Rattle.transfer.specs.declared.phase.Phase as I2cPhase
 use Rattle.i2c.specs.declared.sample.I2c as I2cState
 use Rattle.i2c.specs.Sample as I2cSample
 use Rattle.chip.specs.declared.model.BusState.{BusState}
 use Rattle.chip.specs.declared.model.BusState.the-variants.{Unpowered, SpiOn, I2cOn}
 use Rattle.chip.specs.declared.model.Model.{Model}
-use Rattle.chip.specs.Event.{Outcome, advanceOf}
+use Rattle.events.specs.Event.{Outcome, advanceOf}
 use Rattle.samples.specs.declared.reached.Reached.{Reached}
 
 -- state, count of events, bytes taken, memory and answers

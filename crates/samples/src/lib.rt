@@ -1,7 +1,4 @@
-// Consecutive samples of a part under power, with expected answers that hold among them: one loop for each bus, which keeps the state
-// of the bus in locals.
-pub mod consecutive;
+// What the loops over consecutive samples share: how far they have come, the sample that the next event amounts to, and where an
+// answer is noted.
 pub mod note;
-pub mod on_i2c;
-pub mod on_spi;
 pub mod reached;

@@ -19,7 +19,7 @@ pub struct Reached {
 pub fn reach(model: Model, status: Status, bus: BusState, count: usize, offset: usize) -> Reached
     ensures { λ r. ⌜ r ≡ reached (modelOf (model .part) (model .pins) status bus) count offset ⌝ }
 {
-    let model = chip::event::with_bus(model, status, bus);
+    let model = chip::model::with_bus(model, status, bus);
     Reached {
         model,
         count,

@@ -7,6 +7,7 @@ use native.Mathlib.Numerals.{add-one}
 use native.Mathlib.Omega.{arith}
 use lib.Dec.{eqb, ltb}
 use borrow.Author.Tests.{eq-eqb, ne-eqb, ltb-true, ltb-false}
+use Rattle.parts.specs.Status.{bit}
 use Rattle.serial.specs.Bits.{shifted}
 
 two-positive : 0 < 2
@@ -31,3 +32,17 @@ shifted-out n v = by (ltb v (2 ^ n)) refl
       where
         left-over : 2 ^ n * 0 + v % 2 ^ n ≡ v → 2 ^ n ≤ v → ⊥
         left-over q l = omega (arith, mod-lt v (one-le-pow n 2 two-positive))
+
+-- ---- a level as a bit of a sample
+
+pub bit-small : (b : Bool) → bit b ≤ 1
+bit-small true = omega arith
+bit-small false = omega arith
+
+pub bit-is-one : (b : Bool) → eqb (bit b) 1 ≡ b
+bit-is-one true = refl
+bit-is-one false = refl
+
+-- a number of two levels or more, by its lowest one
+pub lowest-bit : (b : Bool) (y : ℕ) → (bit b + 2 * y) % 2 ≡ bit b
+lowest-bit b y = omega (arith, bit-small b)

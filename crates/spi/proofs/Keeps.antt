@@ -19,23 +19,23 @@ use Rattle.serial.specs.Write.{applied, Within}
 use Rattle.serial.proofs.AddressLaws.{next-within}
 use Rattle.serial.proofs.BitLaws.{shifted-within}
 use Rattle.serial.proofs.WriteLaws.{length-applied}
-use Rattle.spi.specs.declared.levels.Levels.{Levels}
-use Rattle.spi.specs.declared.edge.Edge.{Edge}
-use Rattle.spi.specs.declared.edge.Edge.the-variants.{Select, Deselect, Rise, Fall, Quiet}
-use Rattle.spi.specs.declared.opcode.Command.{Command}
-use Rattle.spi.specs.declared.opcode.Command.the-variants.{WREN, WRDI, RDSR, WRSR, READ, WRITE, FSTRD, RDID, SLEEP, Unknown}
-use Rattle.spi.specs.declared.phase.Field.{Field}
-use Rattle.spi.specs.declared.phase.Field.the-variants.{Opcode, ReadAddress, FastAddress, WriteAddress, Dummy, Data, StatusByte}
-use Rattle.spi.specs.declared.phase.Source.{Source}
-use Rattle.spi.specs.declared.phase.Source.the-variants.{Memory, Register, Identity}
-use Rattle.spi.specs.declared.phase.Phase.{Phase}
-use Rattle.spi.specs.declared.phase.Phase.the-variants.{Rest, Deaf, Taking, Showing, Waiting}
+use Rattle.selection.specs.declared.levels.Levels.{Levels}
+use Rattle.selection.specs.declared.edge.Edge.{Edge}
+use Rattle.selection.specs.declared.edge.Edge.the-variants.{Select, Deselect, Rise, Fall, Quiet}
+use Rattle.selection.specs.declared.opcode.Command.{Command}
+use Rattle.selection.specs.declared.opcode.Command.the-variants.{WREN, WRDI, RDSR, WRSR, READ, WRITE, FSTRD, RDID, SLEEP, Unknown}
+use Rattle.selection.specs.declared.phase.Field.{Field}
+use Rattle.selection.specs.declared.phase.Field.the-variants.{Opcode, ReadAddress, FastAddress, WriteAddress, Dummy, Data, StatusByte}
+use Rattle.selection.specs.declared.phase.Source.{Source}
+use Rattle.selection.specs.declared.phase.Source.the-variants.{Memory, Register, Identity}
+use Rattle.selection.specs.declared.phase.Phase.{Phase}
+use Rattle.selection.specs.declared.phase.Phase.the-variants.{Rest, Deaf, Taking, Showing, Waiting}
 use Rattle.spi.specs.declared.sample.Spi.{Spi}
-use Rattle.spi.specs.Edge.{edgeOf}
-use Rattle.spi.specs.Opcode.{commandOf}
-use Rattle.spi.specs.Phase.{width, begun, filled, nextSource, afterTaken, afterShown, afterRise}
+use Rattle.selection.specs.Edge.{edgeOf}
+use Rattle.selection.specs.Opcode.{commandOf}
+use Rattle.selection.specs.Phase.{width, begun, filled, nextSource, afterTaken, afterShown, afterRise}
 use Rattle.spi.specs.Store.{fieldWrite, dataWrite, permitted, riseWrite}
-use Rattle.spi.specs.Ranges.{FieldIn, SourceIn, TakingIn, ShowingIn, PhaseIn}
+use Rattle.selection.specs.Ranges.{FieldIn, SourceIn, TakingIn, ShowingIn, PhaseIn}
 use Rattle.spi.specs.Sample.{selected, stepOn, stepOf, Ready}
 
 module _ (p : Part) (fit : Fit p) where

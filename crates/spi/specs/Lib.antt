@@ -1,9 +1,3 @@
-pub mod Levels
-pub mod Edge
-pub mod Opcode
-pub mod Phase
-pub mod Ranges
 pub mod Store
 pub mod Show
-pub mod Deselect
 pub mod Sample

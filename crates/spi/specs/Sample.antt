@@ -11,19 +11,19 @@ use Rattle.parts.specs.declared.status.Status.{Status}
 use Rattle.parts.specs.Table.{Fit}
 use Rattle.serial.specs.declared.write.Write.{Write}
 use Rattle.serial.specs.declared.write.Write.the-variants.{Nothing}
-use Rattle.spi.specs.declared.levels.Levels.{Levels}
-use Rattle.spi.specs.declared.edge.Edge.{Edge}
-use Rattle.spi.specs.declared.edge.Edge.the-variants.{Select, Deselect, Rise, Fall, Quiet}
-use Rattle.spi.specs.declared.phase.Field.the-variants.{Opcode}
-use Rattle.spi.specs.declared.phase.Phase.{Phase}
-use Rattle.spi.specs.declared.phase.Phase.the-variants.{Rest, Deaf, Taking}
+use Rattle.selection.specs.declared.levels.Levels.{Levels}
+use Rattle.selection.specs.declared.edge.Edge.{Edge}
+use Rattle.selection.specs.declared.edge.Edge.the-variants.{Select, Deselect, Rise, Fall, Quiet}
+use Rattle.selection.specs.declared.phase.Field.the-variants.{Opcode}
+use Rattle.selection.specs.declared.phase.Phase.{Phase}
+use Rattle.selection.specs.declared.phase.Phase.the-variants.{Rest, Deaf, Taking}
 use Rattle.spi.specs.declared.sample.Spi.{Spi}
-use Rattle.spi.specs.Edge.{edgeOf}
-use Rattle.spi.specs.Phase.{afterRise}
+use Rattle.selection.specs.Edge.{edgeOf}
+use Rattle.selection.specs.Phase.{afterRise}
 use Rattle.spi.specs.Store.{riseWrite}
 use Rattle.spi.specs.Show.{afterFall, answerAt}
-use Rattle.spi.specs.Deselect.{statusAfter, asleepAfter}
-use Rattle.spi.specs.Ranges.{PhaseIn}
+use Rattle.spi_status.specs.Deselect.{statusAfter, asleepAfter}
+use Rattle.selection.specs.Ranges.{PhaseIn}
 
 -- the phase after CS# falls: the selection after SLEEP is deaf
 abbrev pub selected : Bool → Phase

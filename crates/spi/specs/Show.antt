@@ -12,11 +12,11 @@ use Rattle.parts.specs.declared.status.Status.{Status}
 use Rattle.parts.specs.Numbers.{levelOf}
 use Rattle.parts.specs.Status.{statusByte}
 use Rattle.serial.specs.Bits.{bitAt}
-use Rattle.spi.specs.declared.levels.Levels.{Levels}
-use Rattle.spi.specs.declared.phase.Source.{Source}
-use Rattle.spi.specs.declared.phase.Source.the-variants.{Memory, Register, Identity}
-use Rattle.spi.specs.declared.phase.Phase.{Phase}
-use Rattle.spi.specs.declared.phase.Phase.the-variants.{Rest, Deaf, Taking, Showing, Waiting}
+use Rattle.selection.specs.declared.levels.Levels.{Levels}
+use Rattle.selection.specs.declared.phase.Source.{Source}
+use Rattle.selection.specs.declared.phase.Source.the-variants.{Memory, Register, Identity}
+use Rattle.selection.specs.declared.phase.Phase.{Phase}
+use Rattle.selection.specs.declared.phase.Phase.the-variants.{Rest, Deaf, Taking, Showing, Waiting}
 
 -- bit 7 - k of what a source shows; RDID shows three bytes, then nothing (house)
 abbrev pub shownBit : Part → Status → List ℕ → Source → ℕ → Answer

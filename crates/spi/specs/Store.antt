@@ -8,10 +8,10 @@ use Rattle.parts.specs.Status.{protectedStart}
 use Rattle.serial.specs.declared.write.Write.{Write}
 use Rattle.serial.specs.declared.write.Write.the-variants.{Nothing, Byte}
 use Rattle.serial.specs.Bits.{shifted}
-use Rattle.spi.specs.declared.phase.Field.{Field}
-use Rattle.spi.specs.declared.phase.Field.the-variants.{Opcode, ReadAddress, FastAddress, WriteAddress, Dummy, Data, StatusByte}
-use Rattle.spi.specs.declared.phase.Phase.{Phase}
-use Rattle.spi.specs.declared.phase.Phase.the-variants.{Rest, Deaf, Taking, Showing, Waiting}
+use Rattle.selection.specs.declared.phase.Field.{Field}
+use Rattle.selection.specs.declared.phase.Field.the-variants.{Opcode, ReadAddress, FastAddress, WriteAddress, Dummy, Data, StatusByte}
+use Rattle.selection.specs.declared.phase.Phase.{Phase}
+use Rattle.selection.specs.declared.phase.Phase.the-variants.{Rest, Deaf, Taking, Showing, Waiting}
 
 -- a whole data byte v for the address a
 abbrev pub permitted : Part → Status → ℕ → ℕ → Write

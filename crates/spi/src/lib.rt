@@ -1,11 +1,4 @@
-// The rules of one sample of an SPI part.
-pub mod deselect;
-pub mod edge;
-pub mod levels;
-pub mod opcode;
-pub mod phase;
-pub mod range;
-pub mod rise;
+// What a sample does on an SPI part: bits shown, bytes stored.
 pub mod sample;
 pub mod show;
 pub mod store;

@@ -1,10 +1,10 @@
 // An SPI part under power.
 ghost use mathlib.Core.Path.{_≡_};
 ghost use Rattle.spi.specs.Sample.{selected};
-use crate::levels::Levels;
-use crate::phase::Field;
-use crate::phase::Phase;
 use parts::answer::Answer;
+use selection::levels::Levels;
+use selection::phase::Field;
+use selection::phase::Phase;
 
 // What it keeps between samples, beside the status register.
 pub struct Spi {
@@ -23,6 +23,6 @@ pub fn select(asleep: bool) -> Phase
     if asleep {
         Phase::Deaf
     } else {
-        crate::rise::taking(Field::Opcode)
+        selection::rise::taking(Field::Opcode)
     }
 }

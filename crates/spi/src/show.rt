@@ -5,13 +5,13 @@ ghost use lib.ListN.{length};
 ghost use Rattle.parts.specs.Numbers.{levelOf};
 ghost use Rattle.serial.specs.Bits.{bitAt};
 ghost use Rattle.spi.specs.Show.{shownBit, afterFall, answerAt};
-ghost use Rattle.spi.specs.Ranges.{ShowingIn, PhaseIn};
-use crate::levels::Levels;
-use crate::phase::Phase;
-use crate::phase::Source;
+ghost use Rattle.selection.specs.Ranges.{ShowingIn, PhaseIn};
 use parts::answer::Answer;
 use parts::part::Part;
 use parts::status::Status;
+use selection::levels::Levels;
+use selection::phase::Phase;
+use selection::phase::Source;
 
 fn shown_bit(part: Part, status: Status, memory: &[u8], source: Source, bit: u8) -> Answer
     requires { ⌜ (length (now memory) ≡ part .size) × ShowingIn part source bit ⌝ }

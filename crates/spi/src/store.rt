@@ -2,11 +2,11 @@
 ghost use mathlib.Core.Path.{_≡_};
 ghost use Prim.Native.Nat.{_<_, _^_};
 ghost use Rattle.spi.specs.Store.{permitted, dataWrite, fieldWrite, riseWrite};
-ghost use Rattle.spi.specs.Ranges.{TakingIn, PhaseIn};
-use crate::phase::Field;
-use crate::phase::Phase;
+ghost use Rattle.selection.specs.Ranges.{TakingIn, PhaseIn};
 use parts::part::Part;
 use parts::status::Status;
+use selection::phase::Field;
+use selection::phase::Phase;
 use serial::write::Write;
 
 // A whole data byte of WRITE, if WEL is 1 and its address is not protected.

@@ -1,36 +1,32 @@
--- `checked_event` meets its contract, by what is read. Assumes nothing.
-use mathlib.Core.Path.{sym, _∙_}
-use Rattle.chip.proofs.CheckLaws.{sound-in}
+-- `checked_event` meets its contract: no bytes, or a run of one event. Assumes nothing.
 use borrow.Author.Needs.{needs}
+use Rattle.model.proofs.OneLaws.{nothing-read, one}
 use Rattle.model.proofs.event.checked_event.Statement.{statement}
 use Rattle.model.proofs.event.checked_event.Tie as tie
 
-part-of-requires : tie.Need-part-of-requires
-part-of-requires c κs = sound-in (c .before .before .before .args .model) (c .before .before .before .args .memory .now) (c .before .before .before .pre) .model .known
-
-take-requires : tie.Need-take-requires
-take-requires c κs =
-    let read = c .before .before .before .before in
-    let start = read .before .before .before .before .before in
-    (read .before .part-of .ensures, start .pre, sym (read .read-event .ensures) ∙ c .before .before .event .given .1)
-
 returns : tie.Need-returns
-returns c = (simp (c .before .before .take .ensures .0, rw (c .before .before .before .before .before .before .before .before .part-of .ensures) at (sym (c .before .before .before .before .before .before .before .read-event .ensures) ∙ c .before .before .before .before .before .event .given .1)), simp (c .before .before .take .ensures .1, rw (c .before .before .before .before .before .before .before .before .part-of .ensures) at (sym (c .before .before .before .before .before .before .before .read-event .ensures) ∙ c .before .before .before .before .before .event .given .1)))
+returns c =
+    let start = c .before .before .before .before in
+    let a = start .args in
+    let e = nothing-read (a .model) (a .memory .now) (a .bytes .now) (start .pre) (c .before .if1 .taken) in
+    (rw (c .refuse .ensures, e), rw e)
 
 returns-2 : tie.Need-returns-2
-returns-2 c = (simp (c .refuse .ensures, rw (c .before .before .before .before .before .part-of .ensures) at (sym (c .before .before .before .before .read-event .ensures) ∙ c .before .before .refusal .given .1)), simp (rw (c .before .before .before .before .before .part-of .ensures) at (sym (c .before .before .before .before .read-event .ensures) ∙ c .before .before .refusal .given .1)))
+returns-2 c =
+    let call = c .before .before .before .before in
+    let start = call .before .before .before .before .before .before in
+    let a = start .args in
+    let e = call .replay-checked .ensures in
+    one (a .model) (a .memory .now) (a .bytes .now) (start .pre) (call .before .before .before .if1 .left) _ _ _ (e .0) (e .1 .0) (e .1 .1)
 
 pub checked-event-spec : {M : Type 1} → statement M
 checked-event-spec =
     tie.close
     (tie.spec
-    (λ c. search needs)
-    part-of-requires
     (λ c κs. search needs)
-    (λ c. search needs)
-    take-requires
-    (λ c. search needs)
-    (λ c κs. search needs)
-    (λ c. search needs)
     returns
+    (λ c. search needs)
+    (λ c κs. search needs)
+    (λ c. search needs)
+    (λ c. search needs)
     returns-2)

@@ -1,6 +1,6 @@
 -- `event` meets its contract: 1 to 3 before the others. Assumes nothing.
 use mathlib.Core.Path.{sym, _∙_}
-use Rattle.model.specs.Event.{eventOf}
+use Rattle.runs.specs.Event.{eventOf}
 use borrow.Author.Needs.{needs}
 use Rattle.model.proofs.event.event.Statement.{statement}
 use Rattle.model.proofs.event.event.Tie as tie

@@ -1,6 +1,6 @@
 -- `replay` meets its contract: 1 to 3 first, then the run. Assumes nothing.
 use mathlib.Core.Path.{sym, _∙_}
-use Rattle.model.specs.Run.{runOf}
+use Rattle.runs.specs.Run.{runOf}
 use borrow.Author.Needs.{needs}
 use Rattle.model.proofs.run.replay.Statement.{statement}
 use Rattle.model.proofs.run.replay.Tie as tie

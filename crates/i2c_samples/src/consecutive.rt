@@ -1,0 +1,78 @@
+// Consecutive samples of an I2C part, with expected answers that hold among them.
+ghost use mathlib.Core.Path.{_≡_};
+ghost use Prim.Native.Nat.{_≤_, _-_};
+ghost use lib.ListN.{length, drop};
+ghost use lib.Seq.{sets};
+ghost use Rattle.parts.specs.Table.{partOf};
+ghost use Rattle.chip.specs.Check.{Sound};
+ghost use Rattle.chip.specs.declared.model.BusState.the-variants.{I2cOn};
+ghost use Rattle.samples.specs.Samples.{samplesOf, reachedBy};
+use chip::model::Model;
+use i2c::sample::I2c;
+use parts::part::Part;
+use samples::reached::Reached;
+use transfer::edge::Edge;
+use transfer::phase::Field;
+use transfer::phase::Phase;
+
+// As many of these events as come one after the other from offset `start` on, within the quota, after `first` accepted events.
+pub fn i2c_samples(
+    part: Part,
+    model: Model,
+    i2c: I2c,
+    trace: &[u8],
+    quota: usize,
+    first: usize,
+    start: usize,
+    memory: &mut [u8],
+    answers: &mut [u8],
+) -> Reached
+    requires { ⌜ (part ≡ partOf (model .part)) × (model .bus ≡ I2cOn i2c) × Sound model (now memory) × (start ≤ length (now trace)) ⌝ }
+    ensures { λ r. ⌜ r ≡ reachedBy first start (samplesOf (quota - first) (drop start (now (trace .entry))) model (now (memory .entry))) ⌝ }
+    ensures { λ r. ⌜ now (memory .exit) ≡ samplesOf (quota - first) (drop start (now (trace .entry))) model (now (memory .entry)) .memory ⌝ }
+    ensures { λ r. ⌜ now (answers .exit) ≡ sets (now (answers .entry)) first (samplesOf (quota - first) (drop start (now (trace .entry))) model (now (memory .entry)) .answers) ⌝ }
+{
+    let pins = model.pins as u8;
+    let mut last = transfer::levels::sample_of(i2c.last);
+    let mut pulling = i2c.pulling;
+    let mut buffer = i2c.buffer;
+    let mut phase = i2c.phase;
+    let mut count = first;
+    let mut offset = start;
+    while crate::turn::next_is(trace, quota, count, offset, pulling) {
+        let sample = samples::reached::first_sample(trace, offset, last);
+        let levels = transfer::levels::levels_of(sample);
+        match transfer::edge::edge_of(pulling, transfer::levels::levels_of(last), levels) {
+            Edge::Start => {
+                phase = transfer::rise::taking(Field::Word);
+                pulling = false;
+            }
+            Edge::Stop => {
+                phase = Phase::Rest;
+                pulling = false;
+            }
+            Edge::Rise { line } => {
+                crate::turn::store(part, phase, levels.wp, &mut *memory);
+                let next = transfer::rise::after_rise(part, pins, buffer, phase, line);
+                buffer = transfer::buffer::buffer_after(part, buffer, phase);
+                phase = next;
+            }
+            Edge::Fall => {
+                pulling = i2c::pull::pulls_after(part, pins, memory, phase);
+            }
+            Edge::Quiet => {}
+        }
+        crate::turn::note_pull(&mut *answers, count, pulling);
+        last = sample;
+        count += 1;
+        offset += 2;
+    }
+    let status = model.status;
+    samples::reached::reach(
+        model,
+        status,
+        crate::turn::on_bus(last, pulling, buffer, phase),
+        count,
+        offset,
+    )
+}

@@ -1,0 +1,60 @@
+// What one turn of the loop asks and does: whether there is a next event, what a rise stores, the answer noted.
+ghost use mathlib.Core.Path.{_≡_};
+ghost use Prim.Native.Nat.{_≤_};
+ghost use lib.ListN.{length, drop, set};
+ghost use Rattle.parts.specs.Numbers.{answerNumber};
+ghost use Rattle.serial.specs.Write.{applied};
+ghost use Rattle.transfer.specs.Levels.{levelsOf};
+ghost use Rattle.transfer.specs.Ranges.{PhaseIn};
+ghost use Rattle.i2c.specs.Sample.{answerOf};
+ghost use Rattle.i2c.specs.Store.{riseWrite};
+ghost use Rattle.chip.specs.declared.model.BusState.the-variants.{I2cOn};
+ghost use Rattle.samples.specs.Samples.{nextIs, i2cOf};
+use chip::model::BusState;
+use i2c::sample::I2c;
+use parts::part::Part;
+use transfer::buffer::AddressBuffer;
+use transfer::phase::Phase;
+
+// The state of the bus after a sample.
+pub fn on_bus(last: u8, pulling: bool, buffer: AddressBuffer, phase: Phase) -> BusState
+    ensures { λ r. ⌜ r ≡ I2cOn (i2cOf (levelsOf last) pulling buffer phase) ⌝ }
+{
+    let last = transfer::levels::levels_of(last);
+    let i2c = I2c {
+        last,
+        pulling,
+        buffer,
+        phase,
+    };
+    BusState::I2cOn { i2c }
+}
+
+// The answer of a part that pulls or not, noted while there is room.
+pub fn note_pull(answers: &mut [u8], at: usize, pulling: bool)
+    ensures { λ r. ⌜ now (answers .exit) ≡ set (now (answers .entry)) at (answerNumber (answerOf pulling)) ⌝ }
+{
+    let answer = i2c::sample::answer_of(pulling);
+    samples::note::note(answers, at, answer.number());
+}
+
+// What a rise of SCL writes is stored.
+pub fn store(part: Part, phase: Phase, wp: bool, memory: &mut [u8])
+    requires { ⌜ PhaseIn part phase × (length (now memory) ≡ part .size) ⌝ }
+    ensures { λ r. ⌜ now (memory .exit) ≡ applied (riseWrite phase wp) (now (memory .entry)) ⌝ }
+{
+    let write = i2c::store::rise_write(part, phase, wp);
+    serial::write::apply(write, memory);
+}
+
+// Whether the quota allows one more event, and at offset there is a sample, or the present answer is expected.
+pub fn next_is(trace: &[u8], quota: usize, count: usize, offset: usize, pulling: bool) -> bool
+    requires { ⌜ offset ≤ length (now trace) ⌝ }
+    ensures { λ r. ⌜ r ≡ nextIs 8 (answerNumber (answerOf pulling)) quota count (drop offset (now (trace .entry))) ⌝ }
+{
+    if quota <= count {
+        return false;
+    }
+    let answer = i2c::sample::answer_of(pulling);
+    trace::sample::stays_first(&trace[offset..], 8, answer.number())
+}

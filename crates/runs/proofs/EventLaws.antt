@@ -1,0 +1,60 @@
+-- One event on a state and a memory that passed 1 to 3: what is read decides. Assumes nothing.
+use Prim.Native.Nat.{ℕ}
+use mathlib.Core.Path.{_≡_, refl}
+use mathlib.Core.List.{List}
+use lib.ListN.{length, getD}
+use Rattle.parts.specs.declared.refusal.Refusal.{Refusal}
+use Rattle.parts.specs.Table.{partOf}
+use Rattle.trace.specs.declared.event.Event.{Event}
+use Rattle.trace.specs.declared.read.Read.{Read}
+use Rattle.trace.specs.declared.read.Read.the-variants.{Whole, Refused}
+use Rattle.trace.specs.Read.{eventLength, readOf}
+use Rattle.trace.proofs.ReadLaws.{passed}
+use Rattle.trace.proofs.SuitLaws.{suits}
+use Rattle.chip.specs.declared.check.Verdict.{Verdict}
+use Rattle.chip.specs.declared.check.Verdict.the-variants.{Passed, Failed}
+use Rattle.chip.specs.declared.model.Model.{Model}
+use Rattle.events.specs.Event.{keeping, refused, advanceOf}
+use Rattle.chip.specs.Check.{checkOf, Sound}
+use Rattle.events.proofs.Keeps.{keeps}
+use Rattle.events.proofs.Stays.{Stays, unchanged, stays}
+use Rattle.runs.specs.Event.{onRead, onVerdict, eventOf}
+
+module _ (s : Model) (m t : List ℕ) (sound : Sound s m) where
+  -- a whole event is carried out
+  pub event-whole : (e : Event) (n : ℕ) → readOf (partOf (s .part)) t ≡ Whole e n → eventOf s m t ≡ advanceOf s m e
+  unfolding eventOf
+  event-whole e n h = rw (sound, h)
+
+  -- anything else is refused by the reader
+  pub event-refused : (r : Refusal) → readOf (partOf (s .part)) t ≡ Refused r → eventOf s m t ≡ keeping m (refused r s)
+  unfolding eventOf
+  event-refused r h = rw (sound, h)
+
+  -- the bytes that it takes, and that state and memory still pass
+  pub event-taken : (e : Event) (n : ℕ) → readOf (partOf (s .part)) t ≡ Whole e n → eventLength (getD t 0 0) ≡ n
+  event-taken e n h = passed (partOf (s .part)) t e n h .taken
+
+  pub event-keeps : (e : Event) (n : ℕ) → readOf (partOf (s .part)) t ≡ Whole e n → Sound (advanceOf s m e .result .model) (advanceOf s m e .memory)
+  event-keeps e n h = keeps s m e sound (suits (partOf (s .part)) t e n h)
+
+-- whatever the bytes, state and memory pass after the event as they did before it
+pub event-sound : (s : Model) (m t : List ℕ) → Sound s m → Sound (eventOf s m t .result .model) (eventOf s m t .memory)
+event-sound s m t sound = by (readOf (partOf (s .part)) t) refl
+  where
+    by : (r : Read) → readOf (partOf (s .part)) t ≡ r → Sound (eventOf s m t .result .model) (eventOf s m t .memory)
+    by (Whole e n) h = rw (event-whole s m t sound e n h) (event-keeps s m t sound e n h)
+    by (Refused r) h = rw (event-refused s m t sound r h) sound
+
+-- any bytes on any state: a refused event drives nothing and changes neither state nor memory
+pub event-stays : (s : Model) (m t : List ℕ) → Stays s m (eventOf s m t)
+unfolding eventOf
+event-stays s m t = by (checkOf s (length m))
+  where
+    by-read : (r : Read) → Stays s m (onRead r s m)
+    by-read (Whole e n) = stays s m e
+    by-read (Refused r) = unchanged s m _
+
+    by : (v : Verdict) → Stays s m (onVerdict v s m t)
+    by Passed = by-read (readOf (partOf (s .part)) t)
+    by (Failed r) = unchanged s m _

@@ -1,0 +1,90 @@
+-- One event that is no sample under power, at the place that a run has come to: what is left after it leads to the same goal. By what
+-- is read there. Assumes nothing.
+use Prim.Native.Nat.{ℕ, _+_, _-_, _<_, _≤_}
+use mathlib.Core.Path.{_≡_, refl, sym, ap, _∙_}
+use mathlib.Core.Bool.{Bool, true, false, cond}
+use mathlib.Core.List.{List}
+use mathlib.Core.Logic.{_⊎_, ⊎-elim}
+use native.Mathlib.Omega.{arith}
+use lib.Dec.{eqb}
+use lib.ListN.{length, drop, set, length-drop}
+use borrow.Author.Tests.{eqb-true, eqb-false}
+use Rattle.parts.specs.declared.part.Part.{Part}
+use Rattle.parts.specs.Table.{partOf}
+use Rattle.parts.proofs.NumberLaws.{number-positive}
+use Rattle.trace.specs.declared.read.Read.{Read}
+use Rattle.trace.specs.declared.read.Read.the-variants.{Whole, Refused}
+use Rattle.trace.specs.Read.{readOf}
+use Rattle.trace.proofs.ReadLaws.{taken-within}
+use Rattle.chip.specs.Check.{Sound}
+use Rattle.events.specs.declared.event.Answered.{Answered}
+use Rattle.events.specs.Apart.{apartOf}
+use Rattle.events.specs.Event.{advanceOf}
+use Rattle.samples.specs.declared.reached.Reached.{Reached}
+use Rattle.steps.specs.declared.other.Other.{Other}
+use Rattle.steps.specs.Other.{other, otherOf, otherNoted}
+use Rattle.runs.specs.Run.{ran, loopOf}
+use Rattle.runs.proofs.RunLaws.{Final, final, finalOf, left-over, left-used, left-unread, left-unmoved, left-moved, moved-sound, moved-part}
+use Rattle.runs.proofs.SamplesRun.{Here, here-apart}
+
+-- the run with the event x and the answers b: refused, it is over; accepted, it goes on
+pub record Went (p : Part) (t : List ℕ) (q : ℕ) (goal : Final) (c : ℕ) (m : List ℕ) (x : Other) (b : List ℕ) : Type 0 where
+  pub sound : Sound (x .model) m
+  pub part : p ≡ partOf (x .model .part)
+  pub within : x .offset ≤ length t
+  pub over : (x .number ≡ 0 → ⊥) → finalOf (ran (x .number) (x .model) c (x .offset)) m b ≡ goal
+  pub left : x .number ≡ 0 → final (c + 1) (x .offset) b (loopOf (q - (c + 1)) (drop (x .offset) t) (x .model) m) ≡ goal
+
+module _ (p : Part) (t : List ℕ) (q : ℕ) (goal : Final) (c : ℕ) (s : Reached) (m buf : List ℕ) (h : Here p t q goal c s m buf) where
+  -- no quota, or the end of the trace
+  pub used : (q ≤ s .count) ⊎ (length t ≤ s .offset) → finalOf (ran 0 (s .model) (s .count) (s .offset)) m buf ≡ goal
+  used z =
+      ⊎-elim
+      (λ u. sym (left-used t q (s .count) (s .offset) (s .model) m buf u) ∙ h .left)
+      (λ u. sym (left-over t q (s .count) (s .offset) (s .model) m buf u) ∙ h .left)
+      z
+
+  module _ (more : s .count < q) (inside : s .offset < length t) where
+    went-by : (r : Read) → readOf p (drop (s .offset) t) ≡ r
+        → Went p t q goal (s .count) m (otherOf r p (s .model) (s .offset)) (otherNoted r p (s .model) (s .count) buf)
+    went-by (Refused r) k =
+        record {
+          sound = h .sound;
+          part = h .part;
+          within = h .within;
+          over = λ z. sym (left-unread t q (s .count) (s .offset) (s .model) m buf (h .sound) more inside r (rw (h .part) at k)) ∙ h .left;
+          left = λ z. absurd (number-positive r z);
+        }
+    went-by (Whole e n) k = by (eqb (a .number) 0) refl
+      where
+        a : Answered
+        a = apartOf p (s .model) e
+
+        read : readOf (partOf (s .model .part)) (drop (s .offset) t) ≡ Whole e n
+        read = rw (h .part) at k
+
+        gave : (a ≡ advanceOf (s .model) m e .result) × (m ≡ advanceOf (s .model) m e .memory)
+        gave = here-apart p (s .model) m (drop (s .offset) t) e n (h .part) (h .sound) (h .over more) read a refl
+
+        by : (y : Bool) → eqb (a .number) 0 ≡ y
+            → Went p t q goal (s .count) m (cond y (other 0 (a .model) (s .offset + n)) (other (a .number) (s .model) (s .offset))) (cond y (set buf (s .count) (a .answer)) buf)
+        by true z =
+            record {
+              sound = moved-sound t q (s .count) (s .offset) (s .model) m buf (h .sound) more inside e n read a m (gave .0) (gave .1);
+              part = h .part ∙ ap partOf (sym (moved-part t q (s .count) (s .offset) (s .model) m buf (h .sound) more inside e n read a m (gave .0) (gave .1)));
+              within = omega (arith, taken-within _ _ _ _ read, length-drop (s .offset) t);
+              over = λ w. absurd (w refl);
+              left = λ w. sym (left-moved t q (s .count) (s .offset) (s .model) m buf (h .sound) more inside e n read a m (gave .0) (gave .1) (eqb-true _ _ z)) ∙ h .left;
+            }
+        by false z =
+            record {
+              sound = h .sound;
+              part = h .part;
+              within = h .within;
+              over = λ w. sym (left-unmoved t q (s .count) (s .offset) (s .model) m buf (h .sound) more inside e n read a m (gave .0) (gave .1) w) ∙ h .left;
+              left = λ w. absurd (eqb-false _ _ z w);
+            }
+
+    pub went : (x : Other) (b : List ℕ) → x ≡ otherOf (readOf p (drop (s .offset) t)) p (s .model) (s .offset)
+        → b ≡ otherNoted (readOf p (drop (s .offset) t)) p (s .model) (s .count) buf → Went p t q goal (s .count) m x b
+    went x b ex eb = rw (ex, eb) (went-by (readOf p (drop (s .offset) t)) refl)

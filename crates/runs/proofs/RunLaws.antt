@@ -1,0 +1,145 @@
+-- The laws of a run, one event at a time: what is left of it after c events and o bytes. Assumes nothing.
+use Prim.Native.Nat.{ℕ, zero, suc, _+_, _-_, _<_, _≤_}
+use mathlib.Core.Path.{_≡_, refl, sym, ap, _∙_}
+use mathlib.Core.List.{List}
+use native.Mathlib.Nat.{zero-add, add-zero, add-assoc}
+use native.Mathlib.Numerals.{add-one}
+use native.Mathlib.Omega.{arith}
+use lib.ListN.{length, take, drop, set, getD, length-drop}
+use lib.Seq.{drop-drop, sets}
+use borrow.Author.Tests.{eq-eqb, ne-eqb}
+use Rattle.parts.specs.declared.part.Part.{Part}
+use Rattle.parts.specs.declared.refusal.Refusal.{Refusal}
+use Rattle.parts.specs.Numbers.{refusalNumber}
+use Rattle.parts.specs.Table.{partOf}
+use Rattle.parts.proofs.NumberLaws.{number-positive}
+use Rattle.trace.specs.declared.event.Event.{Event}
+use Rattle.trace.specs.declared.read.Read.{Read}
+use Rattle.trace.specs.declared.read.Read.the-variants.{Whole, Refused}
+use Rattle.trace.specs.Read.{eventLength, readOf}
+use Rattle.events.specs.declared.event.Answered.{Answered}
+use Rattle.chip.specs.declared.model.Model.{Model}
+use Rattle.events.specs.Event.{Outcome, advanceOf}
+use Rattle.chip.specs.Check.{Sound}
+use Rattle.events.proofs.Stays.{stays}
+use Rattle.samples.proofs.SamplesLaws.{tail-part}
+use Rattle.runs.specs.declared.run.Ran.{Ran}
+use Rattle.runs.specs.Event.{eventOf}
+use Rattle.runs.specs.Run.{Run, ran, ranOf, stop, after, loopOf}
+use Rattle.runs.proofs.EventLaws.{event-whole, event-refused, event-taken, event-keeps}
+
+-- the bytes that an event at the front takes
+abbrev pub taken : List ℕ → ℕ
+taken t = eventLength (getD t 0 0)
+
+module _ (t : List ℕ) (s : Model) (m : List ℕ) where
+  -- at the end of the trace
+  pub loop-over : (q : ℕ) → length t ≡ 0 → loopOf q t s m ≡ stop 0 s m
+  unfolding loopOf
+  loop-over zero h = refl
+  loop-over (suc q) h = rw (eq-eqb _ _ h)
+
+  -- at a refused event
+  pub loop-refused : (q : ℕ) → (length t ≡ 0 → ⊥) → (eventOf s m t .result .number ≡ 0 → ⊥)
+      → loopOf (suc q) t s m ≡ stop (eventOf s m t .result .number) s m
+  unfolding loopOf
+  loop-refused q h n = rw (ne-eqb _ _ h, ne-eqb _ _ n)
+
+  -- at an accepted one
+  pub loop-accepted : (q : ℕ) → (length t ≡ 0 → ⊥) → eventOf s m t .result .number ≡ 0
+      → loopOf (suc q) t s m
+      ≡ after (eventOf s m t .result .answer) (taken t) (loopOf q (drop (taken t) t) (eventOf s m t .result .model) (eventOf s m t .memory))
+  unfolding loopOf
+  loop-accepted q h n = rw (ne-eqb _ _ h, eq-eqb _ _ n)
+
+-- what is read there, of the part of the state
+pub read-on : (p : Part) (s : Model) (t : List ℕ) (o : ℕ) {r : Read} → p ≡ partOf (s .part) → readOf p (take (length t - o) (drop o t)) ≡ r
+    → readOf (partOf (s .part)) (drop o t) ≡ r
+read-on p s t o e h = rw (tail-part t o, e) at h
+
+-- ---- a run that has got so far
+
+-- all that a run gives back
+pub record Final : Type 0 where
+  pub ended : Ran
+  pub memory : List ℕ
+  pub answers : List ℕ
+
+abbrev pub finalOf : Ran → List ℕ → List ℕ → Final
+finalOf r m buf = record { ended = r; memory = m; answers = buf }
+
+-- the run r after c events and o bytes, with the answers so far in buf
+abbrev pub final : ℕ → ℕ → List ℕ → Run → Final
+final c o buf r = finalOf (ran (r .number) (r .model) (c + r .count) (o + r .offset)) (r .memory) (sets buf c (r .answers))
+
+pub final-start : (buf : List ℕ) (r : Run) → final 0 0 buf r ≡ finalOf (ranOf r) (r .memory) (sets buf 0 (r .answers))
+final-start buf r = rw (zero-add (r .count), zero-add (r .offset))
+
+-- what is left of q events at offset o of t
+module _ (t : List ℕ) (q c o : ℕ) (s : Model) (m buf : List ℕ) where
+  abbrev pub left : Run
+  left = loopOf (q - c) (drop o t) s m
+
+  stopped : (n : ℕ) → left ≡ stop n s m → final c o buf left ≡ finalOf (ran n s c o) m buf
+  stopped n e = rw (e, add-zero c, add-zero o)
+
+  pub left-used : q ≤ c → final c o buf left ≡ finalOf (ran 0 s c o) m buf
+  unfolding loopOf
+  left-used h = let e : q - c ≡ 0 = omega arith in stopped 0 (rw e)
+
+  pub left-over : length t ≤ o → final c o buf left ≡ finalOf (ran 0 s c o) m buf
+  left-over h = stopped 0 (loop-over (drop o t) s m (q - c) (rw length-drop (omega arith)))
+
+  module _ (more : c < q) (inside : o < length t) where
+    some : length (drop o t) ≡ 0 → ⊥
+    some z = omega (arith, length-drop o t)
+
+    one-more : q - c ≡ suc (q - (c + 1))
+    one-more = omega arith
+
+    pub left-refused : (eventOf s m (drop o t) .result .number ≡ 0 → ⊥)
+        → final c o buf left ≡ finalOf (ran (eventOf s m (drop o t) .result .number) s c o) m buf
+    left-refused n = stopped _ (rw one-more (loop-refused (drop o t) s m (q - (c + 1)) some n))
+
+    pub left-accepted : eventOf s m (drop o t) .result .number ≡ 0
+        → final c o buf left
+        ≡ final (c + 1) (o + taken (drop o t)) (set buf c (eventOf s m (drop o t) .result .answer))
+        (loopOf (q - (c + 1)) (drop (o + taken (drop o t)) t) (eventOf s m (drop o t) .result .model) (eventOf s m (drop o t) .memory))
+    left-accepted n =
+        rw (one-more, loop-accepted (drop o t) s m (q - (c + 1)) some n, drop-drop, ← add-assoc, ← add-assoc, add-one c)
+
+-- ---- the same by what the reader finds, on a state and a memory that passed
+
+module _ (t : List ℕ) (q c o : ℕ) (s : Model) (m buf : List ℕ) (sound : Sound s m) (more : c < q) (inside : o < length t) where
+  pub left-unread : (r : Refusal) → readOf (partOf (s .part)) (drop o t) ≡ Refused r
+      → final c o buf (left t q c o s m buf) ≡ finalOf (ran (refusalNumber r) s c o) m buf
+  left-unread r h =
+      let e = event-refused s m (drop o t) sound r h in
+      let k : eventOf s m (drop o t) .result .number ≡ refusalNumber r = ap (λ (x : Outcome). x .result .number) e in
+      left-refused t q c o s m buf more inside (λ z. number-positive r (sym k ∙ z)) ∙ ap (λ (n : ℕ). finalOf (ran n s c o) m buf) k
+
+  -- a whole event, with what carrying it out gave: a result r and a memory w
+  module _ (e : Event) (n : ℕ) (h : readOf (partOf (s .part)) (drop o t) ≡ Whole e n)
+      (r : Answered) (w : List ℕ) (result : r ≡ advanceOf s m e .result) (memory : w ≡ advanceOf s m e .memory) where
+    pub left-unmoved : (r .number ≡ 0 → ⊥) → final c o buf (left t q c o s m buf) ≡ finalOf (ran (r .number) s c o) w buf
+    left-unmoved z =
+        let f = rw (event-whole s m (drop o t) sound e n h, ← result) at (left-refused t q c o s m buf more inside) in
+        let k = rw (← result) at (stays s m e .refused-memory) in
+        rw (memory, k z) (f z)
+
+    pub left-moved : r .number ≡ 0
+        → final c o buf (left t q c o s m buf) ≡ final (c + 1) (o + n) (set buf c (r .answer)) (loopOf (q - (c + 1)) (drop (o + n) t) (r .model) w)
+    left-moved z =
+        let f = rw (event-whole s m (drop o t) sound e n h, event-taken s m (drop o t) sound e n h, ← result, ← memory) at
+        (left-accepted t q c o s m buf more inside) in
+        f z
+
+    pub moved-sound : Sound (r .model) w
+    moved-sound = rw (result, memory) (event-keeps s m (drop o t) sound e n h)
+
+    pub moved-part : r .model .part ≡ s .part
+    moved-part = rw result (stays s m e .part-stays)
+
+-- the parts of two equal ends
+pub three : (a b : Final) → a ≡ b → (a .ended ≡ b .ended) × (a .memory ≡ b .memory) × (a .answers ≡ b .answers)
+three a b e = (ap (λ (f : Final). f .ended) e, ap (λ (f : Final). f .memory) e, ap (λ (f : Final). f .answers) e)

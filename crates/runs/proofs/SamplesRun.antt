@@ -1,0 +1,157 @@
+-- Consecutive samples and expected answers are events of a run: a run is these, and then the run of what is left. By induction on
+-- the quota. Assumes nothing.
+use Prim.Native.Nat.{ℕ, zero, suc, _+_, _-_, _<_, _≤_}
+use mathlib.Core.Path.{_≡_, refl, sym, ap, _∙_}
+use mathlib.Core.Bool.{Bool, true, false}
+use mathlib.Core.List.{List, _++_}
+use native.Mathlib.Nat.{zero-add, add-assoc, sub-zero}
+use native.Mathlib.Omega.{arith}
+use lib.ListN.{length, drop, length-drop}
+use lib.Seq.{drop-drop, sets}
+use Rattle.parts.specs.declared.part.Part.{Part}
+use Rattle.parts.specs.Table.{partOf}
+use Rattle.trace.specs.declared.event.Event.{Event}
+use Rattle.trace.specs.declared.read.Read.the-variants.{Whole}
+use Rattle.trace.specs.Read.{readOf}
+use Rattle.trace.specs.Sample.{firstEvent}
+use Rattle.trace.proofs.ReadLaws.{taken-within}
+use Rattle.events.specs.declared.event.Answered.{Answered}
+use Rattle.chip.specs.declared.model.Model.{Model}
+use Rattle.events.specs.Apart.{apartOf}
+use Rattle.events.specs.Event.{advanceOf}
+use Rattle.chip.specs.Check.{Sound}
+use Rattle.events.proofs.ApartLaws.{apart-advance}
+use Rattle.events.proofs.Stays.{stays}
+use Rattle.samples.specs.declared.reached.Reached.{Reached}
+use Rattle.samples.specs.Samples.{Samples, none, one, staysOn, firstDone, samplesOf, reachedBy}
+use Rattle.samples.proofs.NextLaws.{next-read, next-apart, next-accepted}
+use Rattle.samples.proofs.SamplesLaws.{samples-zero, samples-none, samples-one}
+use Rattle.runs.specs.Run.{Run, after, loopOf}
+use Rattle.runs.proofs.EventLaws.{event-whole, event-taken, event-keeps}
+use Rattle.runs.proofs.RunLaws.{Final, final, loop-accepted}
+use Rattle.runs.proofs.SetsLaws.{sets-append}
+
+-- consecutive samples and expected answers, then a run: counts and offsets added, answers put together
+abbrev pub before : Samples → Run → Run
+before r u =
+    record {
+      number = u .number;
+      model = u .model;
+      count = r .count + u .count;
+      offset = r .offset + u .offset;
+      memory = u .memory;
+      answers = r .answers ++ u .answers;
+    }
+
+-- what the samples r at the front of q events leave
+abbrev pub rest : ℕ → List ℕ → Samples → Run
+rest q t r = loopOf (q - r .count) (drop (r .offset) t) (r .model) (r .memory)
+
+-- all that is to be known of the samples r at the front of a run
+pub record Front (q : ℕ) (t : List ℕ) (s : Model) (m : List ℕ) (r : Samples) : Type 0 where
+  pub run : loopOf q t s m ≡ before r (rest q t r)
+  pub sound : Sound (r .model) (r .memory)
+  pub part : r .model .part ≡ s .part
+  pub quota : r .count ≤ q
+  pub within : r .offset ≤ length t
+  pub counted : length (r .answers) ≡ r .count
+  pub over : r .count < q → staysOn (r .model .bus) (drop (r .offset) t) ≡ false
+
+front-none : (q : ℕ) (t : List ℕ) (s : Model) (m : List ℕ) → Sound s m → (0 < q → staysOn (s .bus) t ≡ false) → Front q t s m (none s m)
+front-none q t s m h n =
+    record {
+      run = rw (sub-zero q, zero-add (loopOf q t s m .count), zero-add (loopOf q t s m .offset));
+      sound = h;
+      part = refl;
+      quota = omega arith;
+      within = omega arith;
+      counted = refl;
+      over = n;
+    }
+
+before-one : (a : ℕ) (r : Samples) (u : Run) → after a 2 (before r u) ≡ before (one a r) u
+before-one a r u = rw (add-assoc 1 (r .count) (u .count), add-assoc 2 (r .offset) (u .offset))
+
+module _ (q : ℕ) (t : List ℕ) (s : Model) (m : List ℕ) (sound : Sound s m) (next : staysOn (s .bus) t ≡ true) where
+  step : loopOf (suc q) t s m ≡ after (firstDone s m t .result .answer) 2 (loopOf q (drop 2 t) (firstDone s m t .result .model) (firstDone s m t .memory))
+  step =
+      let h = next-read s m sound t next in
+      let w = event-whole s m t sound (firstEvent t) 2 h in
+      let k = event-taken s m t sound (firstEvent t) 2 h in
+      let l = taken-within _ t _ 2 h in
+      rw (w, k) at (loop-accepted t s m q (λ z. omega arith) (rw w (next-accepted s m sound t next)))
+
+  pub first-sound : Sound (firstDone s m t .result .model) (firstDone s m t .memory)
+  first-sound = event-keeps s m t sound (firstEvent t) 2 (next-read s m sound t next)
+
+  front-one : (r : Samples) → Front q (drop 2 t) (firstDone s m t .result .model) (firstDone s m t .memory) r → Front (suc q) t s m (one (firstDone s m t .result .answer) r)
+  front-one r f =
+      let l = taken-within _ t _ 2 (next-read s m sound t next) in
+      record {
+        run = step ∙ rw (f .run, drop-drop, sub-suc) (before-one (firstDone s m t .result .answer) r _);
+        sound = f .sound;
+        part = f .part ∙ stays s m (firstEvent t) .part-stays;
+        quota = omega (arith, f .quota);
+        within = omega (arith, f .within, length-drop 2 t, l);
+        counted = omega (arith, f .counted);
+        over = λ z. rw drop-drop at (f .over (omega arith));
+      }
+    where
+      sub-suc : suc q - (1 + r .count) ≡ q - r .count
+      sub-suc = omega arith
+
+pub front : (q : ℕ) (t : List ℕ) (s : Model) (m : List ℕ) → Sound s m → Front q t s m (samplesOf q t s m)
+front zero t s m h = rw (samples-zero t s m) (front-none zero t s m h (λ z. absurd (omega arith)))
+front (suc q) t s m h = by (staysOn (s .bus) t) refl (front q (drop 2 t) (firstDone s m t .result .model) (firstDone s m t .memory))
+  where
+    by : (y : Bool) → staysOn (s .bus) t ≡ y
+        → (Sound (firstDone s m t .result .model) (firstDone s m t .memory) → Front q (drop 2 t) (firstDone s m t .result .model) (firstDone s m t .memory) (samplesOf q (drop 2 t) (firstDone s m t .result .model) (firstDone s m t .memory)))
+        → Front (suc q) t s m (samplesOf (suc q) t s m)
+    by true e ih = rw (samples-one t s m q e) (front-one q t s m h e _ (ih (first-sound q t s m h e)))
+    by false e ih = rw (samples-none t s m (suc q) e) (front-none (suc q) t s m h (λ z. e))
+
+-- ---- a run that has got so far takes the samples at hand
+
+-- where it is then: what is left leads to the goal, and another event is next
+pub record Here (p : Part) (t : List ℕ) (q : ℕ) (goal : Final) (c : ℕ) (r : Reached) (m buf : List ℕ) : Type 0 where
+  pub sound : Sound (r .model) m
+  pub part : p ≡ partOf (r .model .part)
+  pub onward : c ≤ r .count
+  pub quota : r .count ≤ q
+  pub within : r .offset ≤ length t
+  pub over : r .count < q → staysOn (r .model .bus) (drop (r .offset) t) ≡ false
+  pub left : final (r .count) (r .offset) buf (loopOf (q - r .count) (drop (r .offset) t) (r .model) m) ≡ goal
+
+module _ (p : Part) (t : List ℕ) (q c o : ℕ) (s : Model) (m buf : List ℕ) (goal : Final) (sound : Sound s m) (part : p ≡ partOf (s .part))
+    (more : c < q) (inside : o ≤ length t) (left : final c o buf (loopOf (q - c) (drop o t) s m) ≡ goal) where
+  abbrev taken-samples : Samples
+  taken-samples = samplesOf (q - c) (drop o t) s m
+
+  onward-left : final (c + taken-samples .count) (o + taken-samples .offset) (sets buf c (taken-samples .answers))
+      (loopOf (q - (c + taken-samples .count)) (drop (o + taken-samples .offset) t) (taken-samples .model) (taken-samples .memory)) ≡ goal
+  onward-left =
+      let f = front (q - c) (drop o t) s m sound in
+      let e : (q - c) - taken-samples .count ≡ q - (c + taken-samples .count) = omega arith in
+      rw (f .run, drop-drop, e, sets-append, f .counted, ← add-assoc, ← add-assoc) at left
+
+  pub samples-here : (r : Reached) (w b : List ℕ) → r ≡ reachedBy c o taken-samples → w ≡ taken-samples .memory → b ≡ sets buf c (taken-samples .answers)
+      → Here p t q goal c r w b
+  samples-here r w b x y z =
+      let f = front (q - c) (drop o t) s m sound in
+      rw (x, y, z)
+      (record {
+        sound = f .sound;
+        part = part ∙ ap partOf (sym (f .part));
+        onward = omega arith;
+        quota = omega (arith, f .quota);
+        within = omega (arith, f .within, length-drop o t);
+        over = λ k. rw drop-drop at (f .over (omega arith));
+        left = onward-left;
+      })
+
+-- an event there is no sample under power, and leaves the memory
+pub here-apart : (p : Part) (s : Model) (m t : List ℕ) (e : Event) (n : ℕ) → p ≡ partOf (s .part) → Sound s m → staysOn (s .bus) t ≡ false
+    → readOf (partOf (s .part)) t ≡ Whole e n → (a : Answered) → a ≡ apartOf p s e → (a ≡ advanceOf s m e .result) × (m ≡ advanceOf s m e .memory)
+here-apart p s m t e n k sound over read a x =
+    let h = apart-advance s m e (next-apart s m sound t e n over read) in
+    (x ∙ rw (k, h), rw h)

@@ -1,0 +1,64 @@
+-- Trace runs take an event quota. A run stops when the quota is used, the trace ends or an event is refused.
+use Prim.Native.Nat.{ℕ, zero, suc, _+_}
+use mathlib.Core.Bool.{cond}
+use mathlib.Core.List.{List, [], _∷_}
+use lib.Dec.{eqb}
+use lib.ListN.{length, drop, getD}
+use Rattle.parts.specs.Numbers.{refusalNumber}
+use Rattle.trace.specs.Read.{eventLength}
+use Rattle.chip.specs.declared.check.Verdict.{Verdict}
+use Rattle.chip.specs.declared.check.Verdict.the-variants.{Passed, Failed}
+use Rattle.chip.specs.declared.model.Model.{Model}
+use Rattle.chip.specs.Check.{checkOf}
+use Rattle.runs.specs.declared.run.Ran.{Ran}
+use Rattle.runs.specs.Event.{eventOf}
+
+-- number or 0, state, count of accepted events, offset of the first kind byte not accepted, memory, and the answers of the accepted
+-- events
+pub record Run : Type 0 where
+  pub number : ℕ
+  pub model : Model
+  pub count : ℕ
+  pub offset : ℕ
+  pub memory : List ℕ
+  pub answers : List ℕ
+
+abbrev pub ran : ℕ → Model → ℕ → ℕ → Ran
+ran n s c o = record { number = n; model = s; count = c; offset = o }
+
+abbrev pub ranOf : Run → Ran
+ranOf r = ran (r .number) (r .model) (r .count) (r .offset)
+
+-- a run that stops here
+abbrev pub stop : ℕ → Model → List ℕ → Run
+stop n s m = record { number = n; model = s; count = 0; offset = 0; memory = m; answers = [] }
+
+-- a run after one accepted event with this answer, which took n bytes
+abbrev pub after : ℕ → ℕ → Run → Run
+after a n r =
+    record {
+      number = r .number;
+      model = r .model;
+      count = 1 + r .count;
+      offset = n + r .offset;
+      memory = r .memory;
+      answers = a ∷ r .answers;
+    }
+
+-- at most `quota` events from the front of t: event's definition, one after the other
+unfoldable pub loopOf : ℕ → List ℕ → Model → List ℕ → Run
+loopOf zero t s m = stop 0 s m
+loopOf (suc quota) t s m =
+    cond (eqb (length t) 0) (stop 0 s m)
+    (cond (eqb (eventOf s m t .result .number) 0)
+    (after (eventOf s m t .result .answer) (eventLength (getD t 0 0))
+    (loopOf quota (drop (eventLength (getD t 0 0)) t) (eventOf s m t .result .model) (eventOf s m t .memory)))
+    (stop (eventOf s m t .result .number) s m))
+
+abbrev pub onVerdict : Verdict → ℕ → List ℕ → Model → List ℕ → Run
+onVerdict Passed quota t s m = loopOf quota t s m
+onVerdict (Failed r) quota t s m = stop (refusalNumber r) s m
+
+-- a run tests 1 to 3 first, even for an empty trace or quota 0
+unfoldable pub runOf : ℕ → List ℕ → Model → List ℕ → Run
+runOf quota t s m = onVerdict (checkOf s (length m)) quota t s m

@@ -1,0 +1,14 @@
+-- SPI sample: bit 0 CS#, 1 SCK, 2 SI, 3 WP#, 4 HOLD#.
+use Prim.Native.Nat.{ℕ, _/_, _%_}
+use lib.Dec.{eqb}
+use Rattle.selection.specs.declared.levels.Levels.{Levels}
+
+abbrev pub levelsOf : ℕ → Levels
+levelsOf x =
+    record {
+      cs = eqb (x % 2) 1;
+      sck = eqb (x / 2 % 2) 1;
+      si = eqb (x / 4 % 2) 1;
+      wp = eqb (x / 8 % 2) 1;
+      hold = eqb (x / 16 % 2) 1;
+    }

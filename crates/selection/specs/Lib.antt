@@ -1,0 +1,5 @@
+pub mod Levels
+pub mod Edge
+pub mod Opcode
+pub mod Phase
+pub mod Ranges

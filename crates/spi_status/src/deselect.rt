@@ -1,0 +1,122 @@
+// What CS# rising does.
+ghost use mathlib.Core.Path.{_≡_};
+ghost use Rattle.spi_status.specs.Deselect.{takenStatus, writtenStatus, actionStatus, fieldStatus, statusAfter, isSleep, sleeps, asleepAfter};
+use parts::status::Status;
+use selection::phase::Action;
+use selection::phase::Field;
+use selection::phase::Phase;
+
+// The register that a byte of WRSR says, with WEL cleared.
+fn taken_status(byte: u8) -> Status
+    ensures { λ r. ⌜ r ≡ takenStatus byte ⌝ }
+{
+    Status {
+        srwd: byte / 128 % 2 == 1,
+        bp1: byte / 8 % 2 == 1,
+        bp0: byte / 4 % 2 == 1,
+        wel: false,
+    }
+}
+
+// WRSR with a whole data byte, with WP# as it is when CS# rises.
+fn written_status(status: Status, wp: bool, byte: u8) -> Status
+    ensures { λ r. ⌜ r ≡ writtenStatus status wp byte ⌝ }
+{
+    if status.wel {
+        if status.srwd {
+            if wp {
+                taken_status(byte)
+            } else {
+                status.with_wel(false)
+            }
+        } else {
+            taken_status(byte)
+        }
+    } else {
+        status.with_wel(false)
+    }
+}
+
+fn action_status(status: Status, wp: bool, action: Action) -> Status
+    ensures { λ r. ⌜ r ≡ actionStatus status wp action ⌝ }
+{
+    match action {
+        Action::SetLatch => status.with_wel(true),
+        Action::ClearLatch => status.with_wel(false),
+        Action::FallAsleep => status,
+        Action::WriteStatus { byte } => written_status(status, wp, byte),
+    }
+}
+
+// WEL after a WRITE selection: dropped if there was a whole data byte.
+fn field_status(status: Status, field: Field) -> Status
+    ensures { λ r. ⌜ r ≡ fieldStatus status field ⌝ }
+{
+    match field {
+        Field::Opcode => status,
+        Field::ReadAddress => status,
+        Field::FastAddress => status,
+        Field::WriteAddress => status,
+        Field::Dummy { address: _ } => status,
+        Field::Data { address: _, whole } => {
+            if whole {
+                status.with_wel(false)
+            } else {
+                status
+            }
+        }
+        Field::StatusByte => status,
+    }
+}
+
+// The status register after CS# rises at a sample with WP# at wp.
+pub fn status_after(status: Status, wp: bool, phase: Phase) -> Status
+    ensures { λ r. ⌜ r ≡ statusAfter status wp phase ⌝ }
+{
+    match phase {
+        Phase::Rest => status,
+        Phase::Deaf => status,
+        Phase::Taking {
+            field,
+            count: _,
+            value: _,
+        } => field_status(status, field),
+        Phase::Showing { source: _, bit: _ } => status,
+        Phase::Waiting { action } => action_status(status, wp, action),
+    }
+}
+
+fn is_sleep(action: Action) -> bool
+    ensures { λ r. ⌜ r ≡ isSleep action ⌝ }
+{
+    match action {
+        Action::SetLatch => false,
+        Action::ClearLatch => false,
+        Action::FallAsleep => true,
+        Action::WriteStatus { byte: _ } => false,
+    }
+}
+
+// Whether a selection that ends in this phase puts the part to sleep.
+fn sleeps(phase: Phase) -> bool
+    ensures { λ r. ⌜ r ≡ sleeps phase ⌝ }
+{
+    match phase {
+        Phase::Rest => false,
+        Phase::Deaf => false,
+        Phase::Taking {
+            field: _,
+            count: _,
+            value: _,
+        } => false,
+        Phase::Showing { source: _, bit: _ } => false,
+        Phase::Waiting { action } => is_sleep(action),
+    }
+}
+
+// Whether the part sleeps after CS# rises.
+pub fn asleep_after(asleep: bool, phase: Phase) -> bool
+    ensures { λ r. ⌜ r ≡ asleepAfter asleep phase ⌝ }
+{
+    if asleep { false } else { sleeps(phase) }
+}

@@ -1,0 +1,63 @@
+-- `one_other` meets its contract, by what is read and by the number. Assumes nothing.
+use mathlib.Core.Path.{sym, _∙_}
+use native.Mathlib.Omega.{arith}
+use borrow.Author.Needs.{needs}
+use borrow.Author.Tests.{eq-eqb, ne-eqb}
+use lib.ListN.{length-drop}
+use Rattle.trace.proofs.ReadLaws.{taken-within}
+use Rattle.samples.proofs.SamplesLaws.{tail-part}
+use Rattle.steps.proofs.other.one_other.Statement.{statement}
+use Rattle.steps.proofs.other.one_other.Tie as tie
+
+returns : tie.Need-returns
+returns c =
+    let a = c .before .before .before .before .before .before .before .args in
+    let read = rw (tail-part (a .trace .now) (a .offset)) at (sym (c .before .before .before .read-event .ensures) ∙ c .before .enum-told .given .1) in
+    (simp (c .stopped .ensures, c .before .enum-told .given .1, read), simp read)
+
+add-past : tie.Need-add-past
+add-past c =
+    let called = c .before .before .before in
+    let start = called .before .before .before .before in
+    let a = start .args in
+    let read = rw (tail-part (a .trace .now) (a .offset)) at (sym (called .read-event .ensures) ∙ c .before .read .given .1) in
+    omega (arith, taken-within _ _ _ _ read, length-drop (a .offset) (a .trace .now), start .pre, start .good .1 .1 .0 .0)
+
+returns-2 : tie.Need-returns-2
+returns-2 c =
+    let called = c .before .before .before .before .before .before .before in
+    let a = called .before .before .before .before .args in
+    let read = rw (tail-part (a .trace .now) (a .offset)) at (sym (called .read-event .ensures) ∙ c .before .before .before .before .before .read .given .1) in
+    let n = ne-eqb _ _ (c .before .if1 .taken) in
+    let e = c .before .before .before .apart .ensures in
+    (simp (c .ended .ensures, read, ← e, n), simp (read, ← e, n))
+
+returns-3 : tie.Need-returns-3
+returns-3 c =
+    let called = c .before .before .before .before .before .before .before .before .before .before .before .before in
+    let a = called .before .before .before .before .args in
+    let read = rw (tail-part (a .trace .now) (a .offset)) at (sym (called .read-event .ensures) ∙ c .before .before .before .before .before .before .before .before .before .before .read .given .1) in
+    let n = eq-eqb _ _ (c .before .before .before .before .before .before .if1 .left) in
+    let e = c .before .before .before .before .before .before .before .before .apart .ensures in
+    (simp (c .ended2 .ensures, read, ← e, n), simp (c .before .before .before .before .note .ensures, read, ← e, n))
+
+pub one-other-spec : {M : Type 1} → statement M
+one-other-spec =
+    tie.close
+    (tie.spec
+    (λ c. search needs)
+    (λ c. search needs)
+    (λ c. search needs)
+    (λ c κs. search needs)
+    (λ c. search needs)
+    (λ c. search needs)
+    (λ c κs. search needs)
+    returns
+    add-past
+    (λ c κs. search needs)
+    (λ c κs. search needs)
+    returns-2
+    (λ c κs. search needs)
+    (λ c κs. search needs)
+    (λ c. search needs)
+    returns-3)

@@ -1,0 +1,22 @@
+-- `stopped` meets its contract. Assumes nothing.
+use borrow.Author.Needs.{needs}
+use Rattle.steps.proofs.other.stopped.Statement.{statement}
+use Rattle.steps.proofs.other.stopped.Tie as tie
+
+returns : tie.Need-returns
+returns c = simp (c .ended .ensures, c .before .enum-told .given .1)
+
+returns-2 : tie.Need-returns-2
+returns-2 c = simp (c .ended2 .ensures, c .before .number .ensures, c .before .before .before .read .given .1)
+
+pub stopped-spec : {M : Type 1} → statement M
+stopped-spec =
+    tie.close
+    (tie.spec
+    (λ c. search needs)
+    (λ c κs. search needs)
+    (λ c. search needs)
+    (λ c κs. search needs)
+    (λ c κs. search needs)
+    returns
+    returns-2)

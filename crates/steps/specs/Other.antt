@@ -1,0 +1,41 @@
+-- One event that is no sample under power, after c events and o bytes of a run: the run goes on after it, or stops at it. These
+-- definitions only say how the code divides a run.
+use Prim.Native.Nat.{ℕ, _+_}
+use mathlib.Core.Bool.{cond}
+use mathlib.Core.List.{List}
+use lib.Dec.{eqb}
+use lib.ListN.{set}
+use Rattle.parts.specs.declared.part.Part.{Part}
+use Rattle.parts.specs.Numbers.{refusalNumber}
+use Rattle.trace.specs.declared.read.Read.{Read}
+use Rattle.trace.specs.declared.read.Read.the-variants.{Whole, Refused}
+use Rattle.events.specs.declared.event.Answered.{Answered}
+use Rattle.events.specs.Apart.{apartOf}
+use Rattle.chip.specs.declared.model.Model.{Model}
+use Rattle.steps.specs.declared.other.Other.{Other}
+
+-- number or 0, state, and the offset of the first kind byte not accepted
+abbrev pub other : ℕ → Model → ℕ → Other
+other n s o = record { number = n; model = s; offset = o }
+
+-- a refusal of the reader
+abbrev pub stoppedBy : Read → Model → ℕ → Other
+stoppedBy (Whole e n) s o = other 0 s o
+stoppedBy (Refused r) s o = other (refusalNumber r) s o
+
+-- by what the event gave, which took n bytes
+abbrev pub otherBy : Answered → ℕ → Model → ℕ → Other
+otherBy a n s o = cond (eqb (a .number) 0) (other 0 (a .model) (o + n)) (other (a .number) s o)
+
+-- by what was read; the reader's refusal leaves with its offset
+abbrev pub otherOf : Read → Part → Model → ℕ → Other
+otherOf (Whole e n) p s o = otherBy (apartOf p s e) n s o
+otherOf (Refused r) p s o = other (refusalNumber r) s o
+
+-- its answer is noted at c if it is accepted
+abbrev pub notedBy : Answered → ℕ → List ℕ → List ℕ
+notedBy a c buf = cond (eqb (a .number) 0) (set buf c (a .answer)) buf
+
+abbrev pub otherNoted : Read → Part → Model → ℕ → List ℕ → List ℕ
+otherNoted (Whole e n) p s c buf = notedBy (apartOf p s e) c buf
+otherNoted (Refused r) p s c buf = buf

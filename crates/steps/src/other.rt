@@ -1,0 +1,63 @@
+// One event of a run that is no sample under power.
+ghost use mathlib.Core.Path.{_≡_};
+ghost use Prim.Native.Nat.{_≤_};
+ghost use lib.ListN.{length, drop};
+ghost use Rattle.trace.specs.Read.{readOf};
+ghost use Rattle.steps.specs.Other.{other, stoppedBy, otherOf, otherNoted};
+use chip::model::Model;
+use parts::part::Part;
+use trace::read::Read;
+
+// Number or 0, state, and the offset of the first kind byte not accepted.
+pub struct Other {
+    pub number: u8,
+    pub model: Model,
+    pub offset: usize,
+}
+
+fn ended(number: u8, model: Model, offset: usize) -> Other
+    ensures { λ r. ⌜ r ≡ other number model offset ⌝ }
+{
+    Other {
+        number,
+        model,
+        offset,
+    }
+}
+
+// The reader's refusal.
+fn stopped(read: Read, model: Model, offset: usize) -> Other
+    ensures { λ r. ⌜ r ≡ stoppedBy read model offset ⌝ }
+{
+    match read {
+        Read::Whole { event: _, taken: _ } => ended(0, model, offset),
+        Read::Refused { refusal } => ended(refusal.number(), model, offset),
+    }
+}
+
+// The event at offset, and its answer noted at count if it is accepted.
+pub fn one_other(
+    part: Part,
+    model: Model,
+    trace: &[u8],
+    count: usize,
+    offset: usize,
+    answers: &mut [u8],
+) -> Other
+    requires { ⌜ offset ≤ length (now trace) ⌝ }
+    ensures { λ r. ⌜ r ≡ otherOf (readOf part (drop offset (now (trace .entry)))) part model offset ⌝ }
+    ensures { λ r. ⌜ now (answers .exit) ≡ otherNoted (readOf part (drop offset (now (trace .entry)))) part model count (now (answers .entry)) ⌝ }
+{
+    let read = trace::read::read_event(part, &trace[offset..]);
+    let Read::Whole { event, taken } = read else {
+        return stopped(read, model, offset);
+    };
+    let past = offset + taken;
+    let answered = events::event::apart(part, model, event);
+    if answered.number != 0 {
+        return ended(answered.number, model, offset);
+    }
+    samples::note::note(answers, count, answered.answer);
+    let next = answered.model;
+    ended(0, next, past)
+}

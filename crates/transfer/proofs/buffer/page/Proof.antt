@@ -1,0 +1,14 @@
+-- `page` meets its contract, by whether the word carries A16. Assumes nothing.
+use Rattle.transfer.proofs.BufferLaws.{paged-within}
+use borrow.Author.Needs.{needs}
+use Rattle.transfer.proofs.buffer.page.Statement.{statement}
+use Rattle.transfer.proofs.buffer.page.Tie as tie
+
+returns : tie.Need-returns
+returns c = (
+  simp (c .bit-of .ensures .0, c .before .if1 .taken),
+  simp (c .bit-of .ensures .0) (rw (c .before .if1 .taken) at (paged-within _ (c .before .before .args .a16) _ (c .before .before .pre .0) (c .before .before .pre .1))),
+)
+
+pub page-spec : {M : Type 1} → statement M
+page-spec = tie.close (tie.spec (λ c κs. search needs) (λ c. search needs) (λ c. search needs) (λ c. search needs) returns (λ c. search needs))

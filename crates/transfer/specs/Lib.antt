@@ -1,0 +1,6 @@
+pub mod Levels
+pub mod Edge
+pub mod Word
+pub mod Buffer
+pub mod Phase
+pub mod Ranges

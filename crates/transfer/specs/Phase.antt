@@ -1,0 +1,45 @@
+-- What a rise of SCL makes of the phase. Eight bits make a byte; the ninth clock acknowledges.
+use Prim.Native.Nat.{ℕ, _+_}
+use mathlib.Core.Bool.{Bool, cond}
+use lib.Dec.{ltb}
+use Rattle.parts.specs.declared.part.Part.{Part}
+use Rattle.serial.specs.Bits.{shifted}
+use Rattle.serial.specs.Address.{nextAddress}
+use Rattle.transfer.specs.declared.buffer.AddressBuffer.{AddressBuffer}
+use Rattle.transfer.specs.declared.word.DeviceWord.{DeviceWord}
+use Rattle.transfer.specs.declared.word.DeviceWord.the-variants.{ReadWord, WriteWord, OtherWord}
+use Rattle.transfer.specs.declared.phase.Field.{Field}
+use Rattle.transfer.specs.declared.phase.Field.the-variants.{Word, HighByte, LowByte, Data}
+use Rattle.transfer.specs.declared.phase.Phase.{Phase}
+use Rattle.transfer.specs.declared.phase.Phase.the-variants.{Rest, Deaf, Taking, Sending}
+use Rattle.transfer.specs.Word.{wordOf}
+use Rattle.transfer.specs.Buffer.{joined, readAddress}
+
+-- after a write word two address bytes follow; a read word sends from the buffer; after another word the part waits for START
+-- or STOP
+abbrev pub begun : Part → AddressBuffer → DeviceWord → Phase
+begun p b (ReadWord a16) = Sending (readAddress p b a16) 0
+begun p b (WriteWord a16) = Taking (HighByte a16) 0 0
+begun p b OtherWord = Deaf
+
+-- the phase after the ninth rise of a byte that came in as v; a data byte's address goes up and rolls over
+abbrev pub finished : Part → ℕ → AddressBuffer → Field → ℕ → Phase
+finished p pins b Word v = begun p b (wordOf p pins v)
+finished p pins b (HighByte a16) v = Taking (LowByte a16 v) 0 0
+finished p pins b (LowByte a16 high) v = Taking (Data (joined p a16 high v)) 0 0
+finished p pins b (Data a) v = Taking (Data (nextAddress (p .size) a)) 0 0
+
+-- one rise more of a byte that comes in
+abbrev pub afterTaken : Part → ℕ → AddressBuffer → Field → ℕ → ℕ → Bool → Phase
+afterTaken p pins b f n v line = cond (ltb n 8) (Taking f (n + 1) (shifted v line)) (finished p pins b f v)
+
+-- one rise more of a byte that goes out: a master's low at the ninth rise asks for the next byte; high ends the transfer
+abbrev pub afterSent : Part → ℕ → ℕ → Bool → Phase
+afterSent p a n line = cond (ltb n 8) (Sending a (n + 1)) (cond line Deaf (Sending (nextAddress (p .size) a) 0))
+
+-- the phase after a rise of SCL with the line at that level
+abbrev pub afterRise : Part → ℕ → AddressBuffer → Phase → Bool → Phase
+afterRise p pins b Rest line = Rest
+afterRise p pins b Deaf line = Deaf
+afterRise p pins b (Taking f n v) line = afterTaken p pins b f n v line
+afterRise p pins b (Sending a n) line = afterSent p a n line

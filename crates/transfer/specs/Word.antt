@@ -1,0 +1,19 @@
+-- The word is 1010, then A2 A1 A0 (part 3) or A2 A1 A16 (part 4), then R/W. Another word, 00001xxx of HS mode and F8h included
+-- (F8h: house, as sleep is left out), is not the part's.
+use Prim.Native.Nat.{ℕ, _+_, _/_, _%_}
+use mathlib.Core.Bool.{Bool, false, cond}
+use lib.Dec.{eqb}
+use Rattle.parts.specs.declared.part.Part.{Part}
+use Rattle.transfer.specs.declared.word.DeviceWord.{DeviceWord}
+use Rattle.transfer.specs.declared.word.DeviceWord.the-variants.{ReadWord, WriteWord, OtherWord}
+
+-- 1010 and the address pins stand above A16 and R/W, or above R/W alone
+abbrev pub own : Part → ℕ → ℕ → Bool
+own p pins w = cond (p .a16) (eqb (w / 4) (40 + pins)) (eqb (w / 2) (80 + pins))
+
+-- A16 of a word, 0 on a part whose word has none
+abbrev pub topBit : Part → ℕ → Bool
+topBit p w = cond (p .a16) (eqb (w / 2 % 2) 1) false
+
+unfoldable pub wordOf : Part → ℕ → ℕ → DeviceWord
+wordOf p pins w = cond (own p pins w) (cond (eqb (w % 2) 1) (ReadWord (topBit p w)) (WriteWord (topBit p w))) OtherWord
