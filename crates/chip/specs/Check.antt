@@ -22,11 +22,12 @@ use Rattle.chip.specs.declared.model.Model.{Model}
 abbrev pub noBits : Status → Bool
 noBits st = not (st .srwd) && (not (st .bp1) && not (st .bp0))
 
--- saved bits are 0 to 7 for a part that saves them, else 0; part 0 under power may hold bits 0 to 7
+-- saved bits are 0 to 7 for a part that saves them, and under power for every SPI part, part 0 too, whatever its bus state is: that it
+-- is not the part's is number 2
 abbrev pub holdsBits : Part → BusState → Bool
 holdsBits p Unpowered = p .saved
-holdsBits p (SpiOn s) = isSpi (p .bus)
-holdsBits p (I2cOn s) = p .saved
+holdsBits p (SpiOn s) = cond (p .saved) true (isSpi (p .bus))
+holdsBits p (I2cOn s) = cond (p .saved) true (isSpi (p .bus))
 
 -- address pins and saved bits that the part can have
 abbrev pub placedIn : Part → Model → Bool

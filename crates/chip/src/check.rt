@@ -1,7 +1,8 @@
 // Numbers 1, 2 and 3: what is tested of a state and a memory before anything else.
 ghost use mathlib.Core.Path.{_≡_};
 ghost use Prim.Native.Nat.{_<_};
-ghost use Rattle.parts.specs.Table.{Fit};
+ghost use mathlib.Core.Bool.{true, cond};
+ghost use Rattle.parts.specs.Table.{isSpi, Fit};
 ghost use Rattle.chip.specs.Check.{noBits, holdsBits, placedIn, modelIn, i2cIn, busIn, partCheck, checkOf};
 use crate::model::BusState;
 use crate::model::Model;
@@ -26,17 +27,26 @@ fn no_bits(status: Status) -> bool
     }
 }
 
+// Whether the part may hold bits other than 0 under power.
+fn holds_under_power(part: Part) -> bool
+    ensures { λ r. ⌜ r ≡ cond (part .saved) true (isSpi (part .bus)) ⌝ }
+{
+    if part.saved {
+        true
+    } else {
+        let kind = part.bus;
+        kind.is_spi()
+    }
+}
+
 // Whether the part may hold bits other than 0.
 fn holds_bits(part: Part, bus: BusState) -> bool
     ensures { λ r. ⌜ r ≡ holdsBits part bus ⌝ }
 {
     match bus {
         BusState::Unpowered => part.saved,
-        BusState::SpiOn { spi: _ } => {
-            let kind = part.bus;
-            kind.is_spi()
-        }
-        BusState::I2cOn { i2c: _ } => part.saved,
+        BusState::SpiOn { spi: _ } => holds_under_power(part),
+        BusState::I2cOn { i2c: _ } => holds_under_power(part),
     }
 }
 

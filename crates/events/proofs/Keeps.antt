@@ -39,6 +39,15 @@ use Rattle.chip.specs.Model.{modelOf, unpowered}
 use Rattle.power.specs.Power.{atPower, keptStatus}
 use Rattle.chip.proofs.CheckLaws.{SoundIn, sound-in, sound-test, spi-ready, i2c-ready}
 
+-- bits under power: of an SPI part any, of another those that it had without power
+spi-bits : (saved spi none : Bool) → spi ≡ true → cond (cond saved true spi) true none ≡ true
+spi-bits true spi none h = refl
+spi-bits false spi none h = rw h
+
+i2c-bits : (saved spi none : Bool) → spi ≡ false → cond saved true none ≡ true → cond (cond saved true spi) true none ≡ true
+i2c-bits true spi none e h = refl
+i2c-bits false spi none e h = rw e h
+
 -- what is left of the register at power off is what the part may hold without power
 kept-bits : (y : Bool) (st : Status) (p : Part) → p .saved ≡ y → cond y true (noBits (keptStatus p st)) ≡ true
 kept-bits true st p e = refl
@@ -79,13 +88,13 @@ module _ (part pins : ℕ) (st : Status) (m : List ℕ) where
       → SoundIn (onUnpowered (modelOf part pins st Unpowered) e .model) m
   unpowered-in (SpiPowerOn x) h u =
       record {
-        model = record { known = h .model .known; wired = h .model .wired; bits = rw u };
+        model = record { known = h .model .known; wired = h .model .wired; bits = spi-bits (partOf part .saved) _ _ u };
         bus = rw u (at-power (SpiLevels.levelsOf x .cs));
         sized = h .sized;
       }
   unpowered-in (I2cPowerOn x a) h u =
       record {
-        model = record { known = h .model .known; wired = h .model .wired; bits = h .model .bits };
+        model = record { known = h .model .known; wired = h .model .wired; bits = i2c-bits (partOf part .saved) _ _ (u .0) (h .model .bits) };
         bus = rw (u .0, lt-ltb a (partOf part .size) (u .1));
         sized = h .sized;
       }
@@ -104,7 +113,7 @@ module _ (part pins : ℕ) (st : Status) (m : List ℕ) where
       let spi = and-both (isSpi (partOf part .bus)) _ (h .bus) in
       let r = SpiKeeps.keeps (partOf part) st x l m (spi-ready (modelOf part pins st (SpiOn x)) x m refl h) in
       record {
-        model = record { known = h .model .known; wired = h .model .wired; bits = rw (spi .0) };
+        model = record { known = h .model .known; wired = h .model .wired; bits = spi-bits (partOf part .saved) _ _ (spi .0) };
         bus = rw (spi .0) (SpiRanges.phase-test (partOf part) (SpiSample.stepOf (partOf part) st x l m .spi .phase) (r .inside));
         sized = r .sized;
       }

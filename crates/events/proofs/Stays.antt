@@ -18,32 +18,25 @@ use Rattle.chip.specs.declared.model.BusState.{BusState}
 use Rattle.chip.specs.declared.model.BusState.the-variants.{Unpowered, SpiOn, I2cOn}
 use Rattle.chip.specs.declared.model.Model.{Model}
 use Rattle.events.specs.Event.{Outcome, keeping, accepted, refused, expected, advanceOn, advanceOf}
+use Rattle.events.specs.Stays.{Stays}
 
 module _ (s : Model) (m : List ℕ) where
-  -- part and pins stay, and a refused event drives nothing and changes neither state nor memory
-  pub record Stays (o : Outcome) : Type 0 where
-    pub part-stays : o .result .model .part ≡ s .part
-    pub pins-stay : o .result .model .pins ≡ s .pins
-    pub refused-answer : (o .result .number ≡ 0 → ⊥) → o .result .answer ≡ 2
-    pub refused-model : (o .result .number ≡ 0 → ⊥) → o .result .model ≡ s
-    pub refused-memory : (o .result .number ≡ 0 → ⊥) → o .memory ≡ m
-
   -- refused, with the state as given
-  pub unchanged : (n : ℕ) → Stays (keeping m (record { number = n; answer = 2; model = s }))
+  pub unchanged : (n : ℕ) → Stays s m (keeping m (record { number = n; answer = 2; model = s }))
   unchanged n = record { part-stays = refl; pins-stay = refl; refused-answer = λ _. refl; refused-model = λ _. refl; refused-memory = λ _. refl }
 
   -- accepted, with part and pins as given
-  taken : (o : Outcome) → o .result .number ≡ 0 → o .result .model .part ≡ s .part → o .result .model .pins ≡ s .pins → Stays o
+  taken : (o : Outcome) → o .result .number ≡ 0 → o .result .model .part ≡ s .part → o .result .model .pins ≡ s .pins → Stays s m o
   taken o z q r = record { part-stays = q; pins-stay = r; refused-answer = λ n. absurd (n z); refused-model = λ n. absurd (n z); refused-memory = λ n. absurd (n z) }
 
-  expected-stays : (a : Answer) (v : ℕ) → Stays (keeping m (expected s a v))
+  expected-stays : (a : Answer) (v : ℕ) → Stays s m (keeping m (expected s a v))
   expected-stays a v = by (eqb v (answerNumber a))
     where
-      by : (y : Bool) → Stays (keeping m (cond y (accepted a s) (refused R.Unexpected s)))
+      by : (y : Bool) → Stays s m (keeping m (cond y (accepted a s) (refused R.Unexpected s)))
       by true = taken _ refl refl refl
       by false = unchanged 9
 
-  advance-stays : (b : BusState) (p : Part) (e : Event) → Stays (advanceOn b p s m e)
+  advance-stays : (b : BusState) (p : Part) (e : Event) → Stays s m (advanceOn b p s m e)
   advance-stays Unpowered p (SpiPowerOn x) = taken _ refl refl refl
   advance-stays Unpowered p (I2cPowerOn x a) = taken _ refl refl refl
   advance-stays Unpowered p PowerOff = unchanged 7
@@ -60,6 +53,6 @@ module _ (s : Model) (m : List ℕ) where
   advance-stays (I2cOn x) p (Sample v) = taken _ refl refl refl
   advance-stays (I2cOn x) p (Expected v) = expected-stays (I2cSample.answerOf (x .pulling)) v
 
-  pub stays : (e : Event) → Stays (advanceOf s m e)
+  pub stays : (e : Event) → Stays s m (advanceOf s m e)
   unfolding advanceOf
   stays e = advance-stays (s .bus) (partOf (s .part)) e

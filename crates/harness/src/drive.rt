@@ -1,7 +1,7 @@
 // The exported calls: a making and a run. Numbers have 32 bits, so that a host's 256 is refused and not cut to 0.
 ghost use mathlib.Core.Path.{_≡_};
 ghost use lib.Seq.{sets};
-ghost use Rattle.harness.specs.Drive.{drivenRun};
+ghost use Rattle.model.specs.MadeRun.{madeRun};
 ghost use Rattle.harness.specs.Result.{resultIn};
 
 // Makes a model, runs the trace on the lent memory, and returns the number or 0. A result of exactly 16 bytes gets count and
@@ -18,21 +18,14 @@ pub extern "C" fn sildrokk_replay(
     answers: &mut [u8],
     result: &mut [u8],
 ) -> u8
-    ensures { λ r. ⌜ r ≡ drivenRun part pins bits quota (now (trace .entry)) (now (memory .entry)) .number ⌝ }
-    ensures { λ r. ⌜ now (memory .exit) ≡ drivenRun part pins bits quota (now (trace .entry)) (now (memory .entry)) .memory ⌝ }
-    ensures { λ r. ⌜ now (answers .exit) ≡ sets (now (answers .entry)) 0 (drivenRun part pins bits quota (now (trace .entry)) (now (memory .entry)) .answers) ⌝ }
-    ensures { λ r. ⌜ now (result .exit) ≡ resultIn (drivenRun part pins bits quota (now (trace .entry)) (now (memory .entry)) .count) (drivenRun part pins bits quota (now (trace .entry)) (now (memory .entry)) .offset) (now (result .entry)) ⌝ }
+    ensures { λ r. ⌜ r ≡ madeRun part pins bits quota (now (trace .entry)) (now (memory .entry)) .number ⌝ }
+    ensures { λ r. ⌜ now (memory .exit) ≡ madeRun part pins bits quota (now (trace .entry)) (now (memory .entry)) .memory ⌝ }
+    ensures { λ r. ⌜ now (answers .exit) ≡ sets (now (answers .entry)) 0 (madeRun part pins bits quota (now (trace .entry)) (now (memory .entry)) .answers) ⌝ }
+    ensures { λ r. ⌜ now (result .exit) ≡ resultIn (madeRun part pins bits quota (now (trace .entry)) (now (memory .entry)) .count) (madeRun part pins bits quota (now (trace .entry)) (now (memory .entry)) .offset) (now (result .entry)) ⌝ }
 {
-    let made = model::make::make(part, pins, bits);
-    if made.number == 0 {
-        let start = made.model;
-        let ran = model::run::replay(start, trace, quota as usize, memory, answers);
-        crate::result::write_result(result, ran.count as u64, ran.offset as u64);
-        ran.number
-    } else {
-        crate::result::write_result(result, 0, 0);
-        made.number
-    }
+    let ran = model::made::replay_made(part, pins, bits, trace, quota as usize, memory, answers);
+    crate::result::write_result(result, ran.count as u64, ran.offset as u64);
+    ran.number
 }
 
 // The same without the answers.
@@ -46,9 +39,9 @@ pub extern "C" fn sildrokk_run(
     memory: &mut [u8],
     result: &mut [u8],
 ) -> u8
-    ensures { λ r. ⌜ r ≡ drivenRun part pins bits quota (now (trace .entry)) (now (memory .entry)) .number ⌝ }
-    ensures { λ r. ⌜ now (memory .exit) ≡ drivenRun part pins bits quota (now (trace .entry)) (now (memory .entry)) .memory ⌝ }
-    ensures { λ r. ⌜ now (result .exit) ≡ resultIn (drivenRun part pins bits quota (now (trace .entry)) (now (memory .entry)) .count) (drivenRun part pins bits quota (now (trace .entry)) (now (memory .entry)) .offset) (now (result .entry)) ⌝ }
+    ensures { λ r. ⌜ r ≡ madeRun part pins bits quota (now (trace .entry)) (now (memory .entry)) .number ⌝ }
+    ensures { λ r. ⌜ now (memory .exit) ≡ madeRun part pins bits quota (now (trace .entry)) (now (memory .entry)) .memory ⌝ }
+    ensures { λ r. ⌜ now (result .exit) ≡ resultIn (madeRun part pins bits quota (now (trace .entry)) (now (memory .entry)) .count) (madeRun part pins bits quota (now (trace .entry)) (now (memory .entry)) .offset) (now (result .entry)) ⌝ }
 {
     let mut answers = [0u8; 1];
     sildrokk_replay(part, pins, bits, quota, trace, memory, &mut answers, result)

@@ -1,1 +1,2 @@
 pub mod OneLaws
+pub mod MadeLaws

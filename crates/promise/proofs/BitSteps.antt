@@ -22,20 +22,13 @@ use Rattle.chip.specs.declared.model.Model.{Model}
 use Rattle.runs.specs.Event.{eventOf}
 use Rattle.ledger.specs.Bits as Bits
 use Rattle.ledger.specs.History.{Entry}
-use Rattle.ledger.specs.SpiLedger.{unended, ended, Item, powerOn, powerOff, selection, withBit, closed, noted, lastSample, items, Reading, partial, command, reading, asleep, heard, enabled, SavedBits, noBits, bitsIn, statusWrite, bitsAfter, bits}
+use Rattle.ledger.specs.SpiLedger.{unended, ended, Item, powerOn, powerOff, selection, withBit, closed, noted, lastSample, items, Reading, partial, command, reading, asleep, heard, enabled, SavedBits, bitsIn, statusWrite, bitsAfter, bits}
 use Rattle.promise.specs.Lists.{Seen, shown, modelAfter, memoryAfter}
 use Rattle.promise.specs.Fed.{withEvent}
 use Rattle.promise.specs.Ledger.{savedIn, ledgerBits}
 use Rattle.promise.specs.Promise.{madeBy, historyOf}
+use Rattle.promise.specs.BitSteps.{BitsOldOrNew, old, written, zeroed}
 use Rattle.promise.proofs.Joins.{fed-join}
-
--- the bits before (b) and after (b′) an event, with the items after it (is)
-pub data BitsOldOrNew (p : Part) (is : List Item) (b b′ : SavedBits) : Type 0 where
-  old : b′ ≡ b → BitsOldOrNew p is b b′
-  written : (bs : List Bool) (wp : Bool) (before : List Item) (rest : List Bool) (v : ℕ) (vs : List ℕ)
-      → is ≡ selection bs (ended wp) ∷ before → reading p bs ≡ command WRSR rest → Bits.bytes rest ≡ v ∷ vs → enabled p (heard p before) ≡ true
-      → b′ ≡ bitsIn v → BitsOldOrNew p is b b′
-  zeroed : (before : List Item) → is ≡ powerOff ∷ before → p .saved ≡ false → b′ ≡ noBits → BitsOldOrNew p is b b′
 
 module _ (p : Part) (made : SavedBits) where
   abbrev left : List Item → SavedBits

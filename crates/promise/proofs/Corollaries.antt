@@ -6,7 +6,6 @@ use mathlib.Core.Path.{_≡_, refl, sym, ap, _∙_}
 use mathlib.Core.Bool.{Bool, true, false, cond}
 use mathlib.Core.List.{List, [], _∷_, _++_, append-nil}
 use lib.Dec.{eqb}
-use lib.ListN.{set}
 use Rattle.parts.specs.declared.part.Part.{Part}
 use Rattle.parts.specs.Table.{isSpi, partOf}
 use Rattle.parts.proofs.Rows.{part-fits}
@@ -15,7 +14,6 @@ use Rattle.serial.specs.declared.write.Write.the-variants.{Nothing, Byte}
 use Rattle.trace.specs.declared.read.Read.{Read}
 use Rattle.trace.specs.declared.read.Read.the-variants.{Whole, Refused}
 use Rattle.trace.specs.Read.{readOf}
-use Rattle.selection.specs.declared.opcode.Command.{Command}
 use Rattle.selection.specs.declared.opcode.Command.the-variants.{WREN, WRDI, RDSR, WRSR, READ, WRITE, FSTRD, RDID, SLEEP, Unknown}
 use Rattle.chip.specs.declared.model.BusState.the-variants.{Unpowered}
 use Rattle.chip.specs.declared.model.Model.{Model}
@@ -30,6 +28,7 @@ use Rattle.promise.specs.Lists.{Seen, shown, modelAfter, memoryAfter}
 use Rattle.promise.specs.Fed.{withEvent}
 use Rattle.promise.specs.Ledger.{savedIn, ledgerStores}
 use Rattle.promise.specs.Promise.{madeBy, cut, thenCut, historyOf}
+use Rattle.promise.specs.Corollaries.{isWren, NoWren, OldOrNew, old, new}
 use Rattle.promise.proofs.Ranges.{made-in, made-off}
 use Rattle.promise.proofs.Stays.{cut-memory, cut-refused}
 use Rattle.promise.proofs.Joins.{model-join, memory-join, fed-join}
@@ -37,30 +36,6 @@ use Rattle.promise.proofs.Steps.{list-memory}
 use Rattle.promise.proofs.Grows.{Grown, ledger-grows}
 
 -- ---- without the enable
-
-abbrev pub wrenCommand : Command → Bool
-wrenCommand WREN = true
-wrenCommand WRDI = false
-wrenCommand RDSR = false
-wrenCommand WRSR = false
-wrenCommand READ = false
-wrenCommand WRITE = false
-wrenCommand FSTRD = false
-wrenCommand RDID = false
-wrenCommand SLEEP = false
-wrenCommand Unknown = false
-
--- the bits of a selection begin with WREN
-abbrev pub isWren : Reading → Bool
-isWren partial = false
-isWren (command k rest) = wrenCommand k
-
--- none of the selections is a WREN
-abbrev pub NoWren : Part → List Item → Type 0
-NoWren p [] = Unit {0}
-NoWren p (powerOn ∷ is) = NoWren p is
-NoWren p (powerOff ∷ is) = NoWren p is
-NoWren p (selection bs e ∷ is) = (isWren (reading p bs) ≡ false) × NoWren p is
 
 module _ (p : Part) (made : SavedBits) where
   unless-off : (vs : List ℕ) → unlessAny vs false ≡ false
@@ -115,11 +90,6 @@ module _ (p : Part) (made : SavedBits) where
   write-ends bs wp is rest v vs a r d = rw (a, r, d)
 
 -- ---- old or new
-
--- memory and permitted writes before and after an event: both as before, or both with the same byte more
-pub data OldOrNew (m m′ : List ℕ) (ws ws′ : List Store) : Type 0 where
-  old : m′ ≡ m → ws′ ≡ ws → OldOrNew m m′ ws ws′
-  new : (w : Store) → m′ ≡ set m (w .address) (w .value) → ws′ ≡ ws ++ (w ∷ []) → OldOrNew m m′ ws ws′
 
 by-write : (first : List ℕ) (ws ws′ : List Store) (w : Write) → ws′ ≡ ws ++ storesOf w → OldOrNew (stored first ws) (stored first ws′) ws ws′
 by-write first ws ws′ Nothing e = let q = e ∙ append-nil ws in old (ap (stored first) q) q

@@ -19,3 +19,4 @@ pub mod SpiAnswersShown
 pub mod SpiAnswersBytes
 pub mod SpiAnswersExample
 pub mod Answers
+pub mod RunEvents

@@ -30,7 +30,8 @@ use Rattle.runs.specs.Event as One
 use Rattle.runs.specs.Event.{onRead, eventOf}
 use Rattle.runs.specs.Run as Many
 use Rattle.runs.specs.Run.{Run, stop, after, loopOf, runOf}
-use Rattle.promise.proofs.Reached.{Reached, by-event, reached-check}
+use Rattle.promise.specs.Reached.{Reached, by-event}
+use Rattle.promise.proofs.Reached.{reached-check}
 
 -- neither 1 nor 2
 abbrev Late : ℕ → Type 0

@@ -14,15 +14,9 @@ use Rattle.chip.specs.declared.check.Verdict.the-variants.{Passed, Failed}
 use Rattle.chip.specs.declared.model.Model.{Model}
 use Rattle.chip.specs.Check.{modelIn, busIn, checkOf}
 use Rattle.runs.specs.Event.{eventOf}
-use Rattle.model.specs.Make.{makeOf}
 use Rattle.runs.specs.Run.{Run, stop, after, loopOf, onVerdict, runOf}
+use Rattle.promise.specs.Reached.{Reached, by-making, by-event, by-run}
 use Rattle.promise.proofs.Ranges.{InRange, made-in, event-in}
-
--- by a making with any numbers, then any events and runs, each on any memory
-pub data Reached : Model → Type 0 where
-  by-making : (part pins bits : ℕ) → Reached (makeOf part pins bits .model)
-  by-event : {s : Model} (m t : List ℕ) → Reached s → Reached (eventOf s m t .result .model)
-  by-run : {s : Model} (quota : ℕ) (t m : List ℕ) → Reached s → Reached (runOf quota t s m .model)
 
 loop-in : (quota : ℕ) (t : List ℕ) (s : Model) (m : List ℕ) → InRange s → InRange (loopOf quota t s m .model)
 unfolding loopOf

@@ -5,3 +5,7 @@ pub mod Promise
 pub mod I2cAnswers
 pub mod SpiAnswers
 pub mod Answers
+pub mod RunEvents
+pub mod Reached
+pub mod Corollaries
+pub mod BitSteps

@@ -7,11 +7,10 @@ use native.Mathlib.Omega.{arith}
 use lib.ListN.{length, take, replicate, length-replicate}
 use lib.Seq.{take-at, length-sets, sets, sets-eq}
 use borrow.Author.Tests.{le-ltb}
-use Rattle.model.specs.declared.make.Made.{Made}
 use Rattle.runs.specs.declared.run.Ran.{Ran}
-use Rattle.model.specs.Make.{makeOf}
-use Rattle.runs.specs.Run.{Run, ranOf, runOf}
-use Rattle.runs.proofs.RunCounts.{Counted, run-counted}
+use Rattle.runs.specs.Run.{Run, ranOf}
+use Rattle.runs.specs.Rules.{Counted}
+use Rattle.model.proofs.MadeLaws.{made-counted}
 use Rattle.report.specs.declared.show.Report.{Report}
 use Rattle.report.specs.Report.{unlimited, shownRun, reportOf, textOf, memoryOf}
 use Rattle.report.specs.Text.{text}
@@ -30,16 +29,16 @@ pub record Shown (part : ℕ) (t m : List ℕ) (ran : Ran) (answers memory : Lis
 stored : (n : ℕ) (r : Run) (room : List ℕ) → Counted n r → n ≤ length room → take (r .count) (sets room 0 (r .answers)) ≡ r .answers
 stored n r room k wide = rw (sets-eq (r .answers) room 0 (omega (arith, k .answered, k .within))) (take-at (r .answers) _ (r .count) (k .answered))
 
-pub shown : (part : ℕ) (t m : List ℕ) {room : List ℕ} {made : Made} {ran : Ran} {answers memory : List ℕ} → length t ≤ 65536 → made ≡ makeOf part 0 0
-    → room ≡ replicate 65536 0 → ran ≡ ranOf (runOf unlimited t (made .model) m) → memory ≡ runOf unlimited t (made .model) m .memory
-    → answers ≡ sets room 0 (runOf unlimited t (made .model) m .answers) → Shown part t m ran answers memory
-shown part t m {room} {made} {ran} {answers} {memory} few e empty k w a =
+pub shown : (part : ℕ) (t m : List ℕ) {room : List ℕ} {ran : Ran} {answers memory : List ℕ} → length t ≤ 65536 → room ≡ replicate 65536 0
+    → ran ≡ ranOf (shownRun part t m) → memory ≡ shownRun part t m .memory → answers ≡ sets room 0 (shownRun part t m .answers)
+    → Shown part t m ran answers memory
+shown part t m {room} {ran} {answers} {memory} few empty k w a =
     record {
       short = short;
       fits = rw (a, length-sets) (omega (arith, short, wide));
-      taken = rw (again, k, e) (sym (counted .answered));
-      reported = λ {n} h. rw (h, again, k, e, le-ltb _ _ few);
-      remembered = rw (w, e, le-ltb _ _ few);
+      taken = rw (again, k) (sym (counted .answered));
+      reported = λ {n} h. rw (h, again, k, le-ltb _ _ few);
+      remembered = rw (w, le-ltb _ _ few);
       written = λ out. rw (again, le-ltb _ _ few);
     }
   where
@@ -47,10 +46,10 @@ shown part t m {room} {made} {ran} {answers} {memory} few e empty k w a =
     wide = rw (empty, length-replicate)
 
     counted : Counted (length t) (shownRun part t m)
-    counted = run-counted unlimited t (makeOf part 0 0 .model) m
+    counted = made-counted part 0 0 unlimited t m
 
     short : ran .count ≤ 65536
-    short = rw (k, e) (omega (arith, counted .within))
+    short = rw k (omega (arith, counted .within))
 
     again : take (ran .count) answers ≡ shownRun part t m .answers
-    again = rw (a, k, e) (stored (length t) (shownRun part t m) room counted (omega (arith, wide)))
+    again = rw (a, k) (stored (length t) (shownRun part t m) room counted (omega (arith, wide)))

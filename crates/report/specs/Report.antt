@@ -1,11 +1,11 @@
--- What a program shows of a trace: a run with no limit on a model just made, address pins 0 and saved bits 0.
+-- What a program shows of a trace: a making with address pins 0 and saved bits 0, and a run with no limit.
 use Prim.Native.Nat.{ℕ}
 use mathlib.Core.Bool.{Bool, true, false, cond}
 use mathlib.Core.List.{List, []}
 use lib.Dec.{ltb}
 use lib.ListN.{length}
-use Rattle.model.specs.Make.{makeOf}
-use Rattle.runs.specs.Run.{Run, runOf}
+use Rattle.runs.specs.Run.{Run}
+use Rattle.model.specs.MadeRun.{madeRun}
 use Rattle.report.specs.declared.show.Report.{Report}
 use Rattle.report.specs.Text.{text}
 
@@ -14,7 +14,7 @@ abbrev pub unlimited : ℕ
 unlimited = 18446744073709551615
 
 abbrev pub shownRun : ℕ → List ℕ → List ℕ → Run
-shownRun part t m = runOf unlimited t (makeOf part 0 0 .model) m
+shownRun part t m = madeRun part 0 0 unlimited t m
 
 -- over 65,536 bytes a trace is too long, and nothing is run
 abbrev pub tooLong : List ℕ → Bool

@@ -36,10 +36,16 @@ pub fn show(part: u32, trace: &[u8], memory: &mut [u8], out: &mut [u8]) -> Repor
             length: 0,
         };
     }
-    let made = model::make::make(part, 0, 0);
-    let start = made.model;
     let mut answers = no_answers();
-    let ran = model::run::replay(start, trace, 18446744073709551615, memory, &mut answers);
+    let ran = model::made::replay_made(
+        part,
+        0,
+        0,
+        trace,
+        18446744073709551615,
+        memory,
+        &mut answers,
+    );
     let count = ran.count;
     let length = crate::text::write_text(&answers[..count], out);
     Report {

@@ -17,7 +17,8 @@ use Rattle.chip.specs.declared.model.Model.{Model}
 use Rattle.events.specs.Event.{keeping, refused, advanceOf}
 use Rattle.chip.specs.Check.{checkOf, Sound}
 use Rattle.events.proofs.Keeps.{keeps}
-use Rattle.events.proofs.Stays.{Stays, unchanged, stays}
+use Rattle.events.specs.Stays.{Stays}
+use Rattle.events.proofs.Stays.{unchanged, stays}
 use Rattle.runs.specs.Event.{onRead, onVerdict, eventOf}
 
 module _ (s : Model) (m t : List ℕ) (sound : Sound s m) where

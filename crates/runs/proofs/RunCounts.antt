@@ -14,12 +14,8 @@ use Rattle.chip.specs.declared.model.Model.{Model}
 use Rattle.chip.specs.Check.{checkOf}
 use Rattle.runs.specs.Event.{eventOf}
 use Rattle.runs.specs.Run.{Run, onVerdict, loopOf, runOf}
+use Rattle.runs.specs.Rules.{Counted}
 use Rattle.runs.proofs.RunLaws.{taken, loop-over, loop-refused, loop-accepted}
-
--- both facts of a run on n bytes
-pub record Counted (n : ℕ) (r : Run) : Type 0 where
-  pub answered : length (r .answers) ≡ r .count
-  pub within : r .count ≤ n
 
 loop-counted : (q : ℕ) (t : List ℕ) (s : Model) (m : List ℕ) → Counted (length t) (loopOf q t s m)
 unfolding loopOf

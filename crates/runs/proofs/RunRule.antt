@@ -3,7 +3,7 @@
 use Prim.Native.Nat.{ℕ, zero, suc, _+_}
 use mathlib.Core.Path.{_≡_, refl, sym, _∙_}
 use mathlib.Core.Bool.{Bool, true, false}
-use mathlib.Core.List.{List, _++_}
+use mathlib.Core.List.{List}
 use native.Mathlib.Nat.{zero-add, add-assoc, suc-add}
 use lib.Dec.{eqb}
 use lib.ListN.{length, drop}
@@ -16,20 +16,9 @@ use Rattle.chip.specs.declared.model.Model.{Model}
 use Rattle.chip.specs.Check.{checkOf, Sound}
 use Rattle.runs.specs.Event.{eventOf}
 use Rattle.runs.specs.Run.{Run, stop, after, onVerdict, loopOf, runOf}
+use Rattle.runs.specs.Rules.{joined}
 use Rattle.runs.proofs.EventLaws.{event-sound}
 use Rattle.runs.proofs.RunLaws.{taken, loop-over, loop-refused, loop-accepted}
-
--- one run after another: counts and offsets added, answers put together, the rest from the second
-abbrev pub joined : Run → Run → Run
-joined a b =
-    record {
-      number = b .number;
-      model = b .model;
-      count = a .count + b .count;
-      offset = a .offset + b .offset;
-      memory = b .memory;
-      answers = a .answers ++ b .answers;
-    }
 
 -- the run of k events on what a first run leaves
 abbrev pub rest : ℕ → List ℕ → Run → Run

@@ -70,7 +70,7 @@ module _ (t u : List ℕ) where
   front i h = List·getD-append t u 0 i h
 
   -- an event looks no further than its length
-  event-front : (k : ℕ) → eventLength k ≤ length t → eventOf k (t ++ u) ≡ eventOf k t
+  pub event-front : (k : ℕ) → eventLength k ≤ length t → eventOf k (t ++ u) ≡ eventOf k t
   event-front k h = by (eqb k 2) (eqb k 3) refl refl
     where
       by : (a b : Bool) → eqb k 2 ≡ a → eqb k 3 ≡ b → eventOf k (t ++ u) ≡ eventOf k t

@@ -13,11 +13,11 @@ returns c =
     (simp long, (simp long, simp long))
 
 -- what is known after the run
-after-run : (c : tie.After-replay)
-    → Shown (c .before .before .before .before .before .before .before .before .before .before .args .part) (c .before .before .before .before .before .before .before .before .before .before .args .trace .now) (c .before .before .before .before .before .before .before .before .before .before .args .memory .now) (c .replay .result) (c .replay .last .1 .1 .1 .1 .0) (c .replay .last .1 .1 .1 .0)
+after-run : (c : tie.After-replay-made)
+    → Shown (c .before .before .before .before .before .before .before .before .args .part) (c .before .before .before .before .before .before .before .before .args .trace .now) (c .before .before .before .before .before .before .before .before .args .memory .now) (c .replay-made .result) (c .replay-made .last .1 .1 .1 .1 .1 .1 .0) (c .replay-made .last .1 .1 .1 .1 .1 .0)
 after-run c =
-    let run = c .replay .ensures in
-    shown _ _ _ (omega arith) (c .before .before .before .before .before .make .ensures) (c .before .before .before .no-answers .ensures) (run .0) (run .1 .0) (run .1 .1)
+    let run = c .replay-made .ensures in
+    shown _ _ _ (omega arith) (c .before .before .before .no-answers .ensures) (run .0) (run .1 .0) (run .1 .1)
 
 array-share-prefix-answers : tie.Need-array-share-prefix-answers
 array-share-prefix-answers c = after-run (c .before .before .before) .fits
@@ -41,7 +41,6 @@ show-spec =
     tie.close
     (tie.spec
     returns
-    (λ c κs. search needs)
     (λ c κs. search needs)
     (λ c. search needs)
     (λ c κs. search needs)

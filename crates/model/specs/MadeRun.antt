@@ -3,12 +3,12 @@ use Prim.Native.Nat.{ℕ}
 use mathlib.Core.Bool.{cond}
 use mathlib.Core.List.{List}
 use lib.Dec.{eqb}
 use Rattle.model.specs.declared.make.Made.{Made}
 use Rattle.model.specs.Make.{makeOf}
 use Rattle.runs.specs.Run.{Run, stop, runOf}
 
 abbrev pub runMade : Made → ℕ → List ℕ → List ℕ → Run
 runMade made quota t m = cond (eqb (made .number) 0) (runOf quota t (made .model) m) (stop (made .number) (made .model) m)
 
-unfoldable pub drivenRun : ℕ → ℕ → ℕ → ℕ → List ℕ → List ℕ → Run
-drivenRun part pins bits quota t m = runMade (makeOf part pins bits) quota t m
+unfoldable pub madeRun : ℕ → ℕ → ℕ → ℕ → List ℕ → List ℕ → Run
+madeRun part pins bits quota t m = runMade (makeOf part pins bits) quota t m

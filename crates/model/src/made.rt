@@ -1,0 +1,29 @@
+// A making and a run in one.
+ghost use mathlib.Core.Path.{_≡_};
+ghost use lib.Seq.{sets};
+ghost use Rattle.runs.specs.Run.{ranOf};
+ghost use Rattle.model.specs.MadeRun.{madeRun};
+use runs::run::Ran;
+
+// A refused making gives its number and what it made, and runs nothing.
+pub fn replay_made(
+    part: u32,
+    pins: u32,
+    bits: u32,
+    trace: &[u8],
+    quota: usize,
+    memory: &mut [u8],
+    answers: &mut [u8],
+) -> Ran
+    ensures { λ r. ⌜ r ≡ ranOf (madeRun part pins bits quota (now (trace .entry)) (now (memory .entry))) ⌝ }
+    ensures { λ r. ⌜ now (memory .exit) ≡ madeRun part pins bits quota (now (trace .entry)) (now (memory .entry)) .memory ⌝ }
+    ensures { λ r. ⌜ now (answers .exit) ≡ sets (now (answers .entry)) 0 (madeRun part pins bits quota (now (trace .entry)) (now (memory .entry)) .answers) ⌝ }
+{
+    let made = crate::make::make(part, pins, bits);
+    let start = made.model;
+    if made.number == 0 {
+        crate::run::replay(start, trace, quota, memory, answers)
+    } else {
+        runs::run::ended(made.number, start, 0, 0)
+    }
+}

@@ -1,0 +1,13 @@
+-- The states that the calls reach from a making, refused or not.
+use Prim.Native.Nat.{ℕ}
+use mathlib.Core.List.{List}
+use Rattle.chip.specs.declared.model.Model.{Model}
+use Rattle.runs.specs.Event.{eventOf}
+use Rattle.runs.specs.Run.{runOf}
+use Rattle.model.specs.Make.{makeOf}
+
+-- by a making with any numbers, then any events and runs, each on any memory
+pub data Reached : Model → Type 0 where
+  by-making : (part pins bits : ℕ) → Reached (makeOf part pins bits .model)
+  by-event : {s : Model} (m t : List ℕ) → Reached s → Reached (eventOf s m t .result .model)
+  by-run : {s : Model} (quota : ℕ) (t m : List ℕ) → Reached s → Reached (runOf quota t s m .model)

@@ -1,0 +1,23 @@
+-- The words of the run rule and of the count.
+use Prim.Native.Nat.{ℕ, _+_, _≤_}
+use mathlib.Core.Path.{_≡_}
+use mathlib.Core.List.{_++_}
+use lib.ListN.{length}
+use Rattle.runs.specs.Run.{Run}
+
+-- one run after another: counts and offsets added, answers put together, the rest from the second
+abbrev pub joined : Run → Run → Run
+joined a b =
+    record {
+      number = b .number;
+      model = b .model;
+      count = a .count + b .count;
+      offset = a .offset + b .offset;
+      memory = b .memory;
+      answers = a .answers ++ b .answers;
+    }
+
+-- both facts of a run on n bytes
+pub record Counted (n : ℕ) (r : Run) : Type 0 where
+  pub answered : length (r .answers) ≡ r .count
+  pub within : r .count ≤ n
