@@ -1,0 +1,95 @@
+-- Refused events and makings give what document 01 says, in full. Computed. Assumes nothing.
+use Prim.Native.Nat.{ℕ}
+use mathlib.Core.Path.{_≡_, refl, ap, _∙_}
+use mathlib.Core.List.{List, [], _∷_, map}
+use lib.ListN.{getD}
+use Rattle.trace.specs.Read.{readOf}
+use Rattle.chip.specs.Check.{checkOf}
+use Rattle.chip.specs.Model.{unpowered}
+use Rattle.parts.specs.Status.{cleared}
+use Rattle.model.specs.declared.make.Made.{Made}
+use Rattle.model.specs.Make.{makeOf}
+use Rattle.worked_examples.specs.Cases.{Every}
+use Rattle.worked_examples.specs.Refusals.{Refusal, answerTo, EventRefused, RunRefused, refusals, emptyEvents, Making, MakingRefused, refusedMakings}
+use Rattle.worked_examples.proofs.Trail.{Done, outcome, unwritten, eventBy, event-by, Trail, runFrom, stopBy, loopBy, runBy, run-by}
+
+-- two lists with the same entries
+head-same : {A : Type 0} {x y : A} {xs ys : List A} → x ∷ xs ≡ y ∷ ys → x ≡ y
+head-same h = cc
+
+tail-same : {A : Type 0} {x y : A} {xs ys : List A} → x ∷ xs ≡ y ∷ ys → xs ≡ ys
+tail-same h = cc
+
+-- ---- events, with g for the bytes of the memory
+
+abbrev eventGiven : (ℕ → ℕ) → Refusal → Done
+eventGiven g x = eventBy (x .size) (x .model) g (x .event)
+
+abbrev eventWanted : Refusal → Done
+eventWanted x = unwritten (answerTo x)
+
+events-refused : (xs : List Refusal) → ((g : ℕ → ℕ) → map (eventGiven g) xs ≡ map eventWanted xs) → Every EventRefused xs
+events-refused [] h = tt
+events-refused (x ∷ xs) h = (
+  λ m e. event-by m (λ a. getD m a 0) (λ a. refl) (x .size) (x .model) (x .event) e ∙ ap (outcome m) (head-same (h (λ a. getD m a 0))),
+  events-refused xs (λ g. tail-same (h g)),
+)
+
+events-tested : (g : ℕ → ℕ) → map (eventGiven g) refusals ≡ map eventWanted refusals
+unfolding refusals checkOf readOf makeOf
+events-tested g = refl
+
+-- a refused event gives its number, answer 2, the given state and the given memory
+pub refused-events : Every EventRefused refusals
+refused-events = events-refused refusals events-tested
+
+empty-tested : (g : ℕ → ℕ) → map (eventGiven g) emptyEvents ≡ map eventWanted emptyEvents
+unfolding emptyEvents checkOf readOf makeOf
+empty-tested g = refl
+
+-- a single event that is empty gives 5
+pub empty-events : Every EventRefused emptyEvents
+empty-events = events-refused emptyEvents empty-tested
+
+-- ---- runs of one event
+
+abbrev runGiven : (ℕ → ℕ) → Refusal → Trail
+runGiven g x = runBy 1 (x .size) (x .event) (x .model) g
+
+abbrev runWanted : Refusal → Trail
+runWanted x = stopBy (x .number) (x .model)
+
+runs-refused : (xs : List Refusal) → ((g : ℕ → ℕ) → map (runGiven g) xs ≡ map runWanted xs) → Every RunRefused xs
+runs-refused [] h = tt
+runs-refused (x ∷ xs) h = (
+  λ m e. run-by 1 (x .size) (x .event) (x .model) m (λ a. getD m a 0) e (λ a. refl) ∙ ap (runFrom m) (head-same (h (λ a. getD m a 0))),
+  runs-refused xs (λ g. tail-same (h g)),
+)
+
+runs-tested : (g : ℕ → ℕ) → map (runGiven g) refusals ≡ map runWanted refusals
+unfolding refusals checkOf readOf makeOf loopBy
+runs-tested g = refl
+
+-- a run of a refused event alone stops with its number, nothing accepted
+pub refused-runs : Every RunRefused refusals
+refused-runs = runs-refused refusals runs-tested
+
+-- ---- makings
+
+abbrev makingGiven : Making → Made
+makingGiven x = makeOf (x .part) (x .pins) (x .bits)
+
+abbrev makingWanted : Making → Made
+makingWanted x = record { number = 1; model = unpowered 0 0 cleared }
+
+makings-refused : (xs : List Making) → map makingGiven xs ≡ map makingWanted xs → Every MakingRefused xs
+makings-refused [] h = tt
+makings-refused (x ∷ xs) h = (head-same h, makings-refused xs (tail-same h))
+
+makings-tested : map makingGiven refusedMakings ≡ map makingWanted refusedMakings
+unfolding refusedMakings makeOf
+makings-tested = refl
+
+-- a refused making gives 1 and the unpowered model of part 0 with zero pins and bits
+pub refused-makings : Every MakingRefused refusedMakings
+refused-makings = makings-refused refusedMakings makings-tested

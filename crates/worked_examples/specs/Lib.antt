@@ -1,0 +1,5 @@
+pub mod Traces
+pub mod Cases
+pub mod Examples
+pub mod OwnCases
+pub mod Refusals

@@ -1,0 +1,186 @@
+-- Cases of our own, from the sheets and from document 01's rules.
+use Prim.Native.Nat.{ℕ, suc, _+_}
+use mathlib.Core.Bool.{true, cond}
+use mathlib.Core.List.{List, [], _∷_, _++_, map}
+use lib.Dec.{eqb}
+use lib.ListN.{length}
+use Rattle.parts.specs.Status.{cleared, withWel}
+use Rattle.chip.specs.declared.model.Model.{Model}
+use Rattle.chip.specs.Model.{unpowered}
+use Rattle.worked_examples.specs.Traces.{Step, step, sample, powerOff, spelled, two, three, spiOn, shown, held, sent, seen, selected, command, asked, wren, wrsr, rdsr, write, read, i2cOn, clock, taken, stop, byte, word, given, put, got}
+use Rattle.worked_examples.specs.Cases.{Cell, cell, Case, madeOf, made}
+use Rattle.worked_examples.specs.Examples.{onPart0}
+
+-- ---- where a run stops
+
+-- a state, the length of a memory that holds any bytes, a quota, the steps, the bytes after them, the number, the bytes written
+abbrev pub stopping : Model → ℕ → ℕ → List Step → List ℕ → ℕ → List Cell → Case
+stopping s size quota steps rest n cells =
+    record { model = s; size = size; first = []; quota = quota; steps = steps; rest = rest; number = n; cells = cells }
+
+-- quota 0 and no trace
+abbrev pub atOnce : Model → ℕ → ℕ → Case
+atOnce s size n = stopping s size 0 [] [] n []
+
+-- part 0 just made, with a quota of one event more than the steps
+abbrev pub stopped : List Step → List ℕ → ℕ → List Cell → Case
+stopped steps rest n cells = stopping (madeOf 0 0 0) 4096 (suc (length steps)) steps rest n cells
+
+unfoldable pub runCases : List Case
+runCases =
+    -- a run tests 1 to 3 first, even for an empty trace and quota 0
+    atOnce (unpowered 5 0 cleared) 4096 1
+    ∷ atOnce (unpowered 0 0 (withWel cleared true)) 4096 2
+    ∷ atOnce (unpowered 0 0 cleared) 4097 3
+    ∷ atOnce (unpowered 0 0 cleared) 4096 0
+    -- the programs' inputs: 01 19 04 18 03, then 04 18, then nothing
+    ∷ onPart0 (step (1 ∷ 0x19 ∷ []) 2 ++ step (4 ∷ 0x18 ∷ []) 2 ++ step (3 ∷ []) 2) []
+    ∷ stopped [] (4 ∷ 0x18 ∷ []) 7 []
+    ∷ onPart0 [] []
+    -- the quota is used before the trace ends
+    ∷ stopping (madeOf 0 0 0) 4096 2 (spiOn ++ sample 24 2) (3 ∷ []) 0 []
+    -- earlier events stand: a byte is stored, then an unknown kind, an event cut short, a wrong expected answer
+    ∷ stopped (spiOn ++ write (two 0) (0x5a ∷ [])) (6 ∷ 0 ∷ []) 4 (cell 0 0x5a ∷ [])
+    ∷ stopped (spiOn ++ write (two 0) (0x5a ∷ [])) (4 ∷ []) 5 (cell 0 0x5a ∷ [])
+    ∷ stopped (spiOn ++ write (two 0) (0x5a ∷ [])) (5 ∷ 1 ∷ 3 ∷ []) 9 (cell 0 0x5a ∷ [])
+    -- expected answers that hold: nothing driven without a selection, bit 7 of the status at RDSR's first fall
+    ∷ onPart0 (spiOn ++ step (5 ∷ 2 ∷ []) 2 ++ sample 24 2 ++ sent 24 (0x05 ∷ []) ++ sample 24 0 ++ step (5 ∷ 0 ∷ []) 0) []
+    ∷ []
+
+-- ---- SPI
+
+unfoldable pub statusCases : List Case
+statusCases =
+    -- BP 01 and BP 10, with WEL clear after WRSR and set after WREN
+    onPart0 (spiOn ++ wrsr 0x04 ++ rdsr 0x04 ++ wren ++ rdsr 0x06) []
+    ∷ onPart0 (spiOn ++ wrsr 0x08 ++ rdsr 0x08 ++ wren ++ rdsr 0x0a) []
+    -- WRDI clears WEL
+    ∷ onPart0 (spiOn ++ wren ++ command 24 (0x04 ∷ []) ++ rdsr 0x00) []
+    -- WP# 0 alone does not protect the register
+    ∷ onPart0 (spiOn ++ command 16 (0x06 ∷ []) ++ command 16 (0x01 ∷ 0x0c ∷ []) ++ rdsr 0x0c) []
+    -- SRWD 1 with WP# 0 does not cover memory
+    ∷ onPart0 (spiOn ++ wrsr 0x80 ++ command 16 (0x06 ∷ []) ++ command 16 (0x02 ∷ 0 ∷ 0 ∷ 0x5a ∷ [])) (cell 0 0x5a ∷ [])
+    -- the status is repeated
+    ∷ onPart0 (spiOn ++ wren ++ asked (0x05 ∷ []) (0x02 ∷ 0x02 ∷ [])) []
+    -- a hold while the seventh bit is shown: nothing is driven and no clock counts, then the bit is shown again
+    ∷ onPart0 (spiOn ++ wren ++ selected 24 (sent 24 (0x05 ∷ []) ++ spelled shown 0x02 0 6 ++ sample 24 1 ++ held ++ shown true ++ spelled shown 0x02 7 1)) []
+    -- power on with CS# 0: deaf until CS# has been 1
+    ∷ onPart0 (step (1 ∷ 24 ∷ []) 2 ++ sent 24 (0x05 ∷ 0 ∷ []) ++ sample 27 2 ++ sample 25 2 ++ rdsr 0x00) []
+    -- the bits over a power cut: lost on part 0, saved on parts 1 and 2
+    ∷ onPart0 (spiOn ++ wrsr 0x8c ++ rdsr 0x8c ++ powerOff ++ spiOn ++ rdsr 0x00) []
+    ∷ made 1 0 0 [] (spiOn ++ wrsr 0x8c ++ rdsr 0x8c ++ powerOff ++ spiOn ++ rdsr 0x8c) []
+    ∷ made 2 0 0 [] (spiOn ++ wrsr 0x8c ++ rdsr 0x8c ++ powerOff ++ spiOn ++ rdsr 0x8c) []
+    -- saved bits of a making as SRWD BP1 BP0
+    ∷ made 1 0 5 [] (spiOn ++ rdsr 0x84) []
+    ∷ made 1 0 7 [] (spiOn ++ rdsr 0x8c) []
+    ∷ made 2 0 7 [] (spiOn ++ rdsr 0x8c) []
+    -- SLEEP: the next selection of part 1 is not heard, the one after it is, and WEL is kept; parts 0 and 2 lack it
+    ∷ made 1 0 0 [] (spiOn ++ wren ++ command 24 (0xb9 ∷ []) ++ command 24 (0x05 ∷ 0 ∷ []) ++ rdsr 0x02) []
+    ∷ onPart0 (spiOn ++ wren ++ command 24 (0xb9 ∷ []) ++ rdsr 0x02) []
+    ∷ made 2 0 0 [] (spiOn ++ wren ++ command 24 (0xb9 ∷ []) ++ rdsr 0x02) []
+    -- RDID on parts 1 and 2: three bytes, then nothing
+    ∷ made 1 0 0 [] (spiOn ++ selected 24 (sent 24 (0x9f ∷ []) ++ seen (0xae ∷ 0x83 ∷ 0x09 ∷ []) ++ sent 24 (0 ∷ []))) []
+    ∷ made 2 0 0 [] (spiOn ++ selected 24 (sent 24 (0x9f ∷ []) ++ seen (0xae ∷ 0x83 ∷ 0x1a ∷ []) ++ sent 24 (0 ∷ []))) []
+    -- FSTRD: part 1 shows the byte after eight bits more, parts 0 and 2 lack it
+    ∷ made 1 0 0 (cell 0x12345 0x5a ∷ []) (spiOn ++ asked (0x0b ∷ (three 0x12345 ++ (0 ∷ []))) (0x5a ∷ [])) []
+    ∷ onPart0 (spiOn ++ command 24 (0x0b ∷ 0 ∷ 0 ∷ 0 ∷ 0 ∷ [])) []
+    ∷ made 2 0 0 [] (spiOn ++ command 24 (0x0b ∷ 0 ∷ 0 ∷ 0 ∷ 0 ∷ 0 ∷ [])) []
+    ∷ []
+
+-- the bytes of a WRITE that starts below the protected start
+abbrev pub acrossTwo : ℕ → List Step
+acrossTwo a = write (two a) (0xaa ∷ 0xbb ∷ [])
+
+abbrev pub acrossThree : ℕ → List Step
+acrossThree a = write (three a) (0xaa ∷ 0xbb ∷ [])
+
+-- BP 01, 10 and 11 on each SPI part: the byte below the protected start is written, the byte at it is not. BP 11 protects the
+-- top address and 0; `topCases` has BP 00
+unfoldable pub protectedCases : List Case
+protectedCases =
+    onPart0 (spiOn ++ wrsr 0x04 ++ acrossTwo 0xbff) (cell 0xbff 0xaa ∷ [])
+    ∷ onPart0 (spiOn ++ wrsr 0x08 ++ acrossTwo 0x7ff) (cell 0x7ff 0xaa ∷ [])
+    ∷ onPart0 (spiOn ++ wrsr 0x0c ++ acrossTwo 0xfff) []
+    ∷ made 1 0 1 [] (spiOn ++ acrossThree 0x17fff) (cell 0x17fff 0xaa ∷ [])
+    ∷ made 1 0 2 [] (spiOn ++ acrossThree 0xffff) (cell 0xffff 0xaa ∷ [])
+    ∷ made 1 0 3 [] (spiOn ++ acrossThree 0x1ffff) []
+    ∷ made 2 0 1 [] (spiOn ++ acrossThree 0x2ffff) (cell 0x2ffff 0xaa ∷ [])
+    ∷ made 2 0 2 [] (spiOn ++ acrossThree 0x1ffff) (cell 0x1ffff 0xaa ∷ [])
+    ∷ made 2 0 3 [] (spiOn ++ acrossThree 0x3ffff) []
+    ∷ []
+
+-- a write word, and two bytes from an address on, written and read again
+abbrev pub storedAndRead : ℕ → ℕ → List Step
+storedAndRead w a =
+    i2cOn 0 ++ put w (two a) (0xaa ∷ 0xbb ∷ []) ++ stop ++ put w (two a) [] ++ got (w + 1) (0xaa ∷ []) 0xbb
+
+-- two bytes written from the top address of each part with nothing protected, and read again: the second goes to 0
+unfoldable pub topCases : List Case
+topCases =
+    onPart0 (spiOn ++ acrossTwo 0xfff ++ read (two 0xfff) (0xaa ∷ 0xbb ∷ [])) (cell 0xfff 0xaa ∷ cell 0 0xbb ∷ [])
+    ∷ made 1 0 0 [] (spiOn ++ acrossThree 0x1ffff ++ read (three 0x1ffff) (0xaa ∷ 0xbb ∷ [])) (cell 0x1ffff 0xaa ∷ cell 0 0xbb ∷ [])
+    ∷ made 2 0 0 [] (spiOn ++ acrossThree 0x3ffff ++ read (three 0x3ffff) (0xaa ∷ 0xbb ∷ [])) (cell 0x3ffff 0xaa ∷ cell 0 0xbb ∷ [])
+    ∷ made 3 0 0 [] (storedAndRead 0xa0 0x1fff) (cell 0x1fff 0xaa ∷ cell 0 0xbb ∷ [])
+    ∷ made 4 0 0 [] (storedAndRead 0xa2 0xffff) (cell 0x1ffff 0xaa ∷ cell 0 0xbb ∷ [])
+    ∷ []
+
+-- ---- I2C
+
+-- the answer at the ninth clock of a word, where two words are the part's
+abbrev pub heard : ℕ → ℕ → ℕ → ℕ
+heard own own′ w = cond (eqb w own) 0 (cond (eqb w own′) 0 2)
+
+-- part, address pins, and which of the eight write words A0 to AE are acknowledged: one on part 3, one for each A16 on part 4
+abbrev pub addressed : ℕ → ℕ → ℕ → ℕ → List Case
+addressed part pins own own′ =
+    map (λ w. made part pins 0 [] (i2cOn 0 ++ word w (heard own own′ w)) [])
+    (0xa0 ∷ 0xa2 ∷ 0xa4 ∷ 0xa6 ∷ 0xa8 ∷ 0xaa ∷ 0xac ∷ 0xae ∷ [])
+
+-- each setting of the address pins: A2 A1 A0 of part 3, A2 A1 of part 4
+unfoldable pub wordCases : List Case
+wordCases =
+    addressed 3 0 0xa0 0xa0
+    ++ addressed 3 1 0xa2 0xa2
+    ++ addressed 3 2 0xa4 0xa4
+    ++ addressed 3 3 0xa6 0xa6
+    ++ addressed 3 4 0xa8 0xa8
+    ++ addressed 3 5 0xaa 0xaa
+    ++ addressed 3 6 0xac 0xac
+    ++ addressed 3 7 0xae 0xae
+    ++ addressed 4 0 0xa0 0xa2
+    ++ addressed 4 1 0xa4 0xa6
+    ++ addressed 4 2 0xa8 0xaa
+    ++ addressed 4 3 0xac 0xae
+
+-- on part 3 after power on, with the byte 77 at 0010h
+abbrev pub onPart3 : List Step → List Cell → Case
+onPart3 steps cells = made 3 0 0 (cell 0x10 0x77 ∷ []) (i2cOn 0 ++ steps) cells
+
+unfoldable pub transferCases : List Case
+transferCases =
+    -- 00001xxx of HS mode and F8h are not the part's
+    onPart3 (word 0x08 2 ++ stop ++ word 0xf8 2) []
+    -- part 4, A16 1: a write and a read
+    ∷ made 4 0 0 [] (storedAndRead 0xa2 0x1234) (cell 0x11234 0xaa ∷ cell 0x11235 0xbb ∷ [])
+    -- the read word's A16 replaces the write word's
+    ∷ made 4 0 0 (cell 0x11234 0x5a ∷ []) (i2cOn 0 ++ put 0xa0 (two 0x1234) [] ++ got 0xa3 [] 0x5a) []
+    -- STOP after the eighth data bit: the ninth clock gets no acknowledge and stores nothing; the same without power
+    ∷ onPart3 (put 0xa0 (two 0x10) [] ++ spelled taken 0x5a 0 8 ++ sample 3 2 ++ clock true 2) []
+    ∷ onPart3 (put 0xa0 (two 0x10) [] ++ spelled taken 0x5a 0 8 ++ powerOff) []
+    -- a repeated START there: nothing is stored, and a new word begins, which reads the address
+    ∷ onPart3 (put 0xa0 (two 0x10) [] ++ spelled taken 0x5b 0 8 ++ sample 1 2 ++ byte 0xa1 0 ++ given true 0x77 ++ stop) []
+    -- STOP in the middle of a data byte: the byte before it stands
+    ∷ onPart3 (put 0xa0 (two 0x10) (0x5a ∷ []) ++ spelled taken 0xff 0 4 ++ stop) (cell 0x10 0x5a ∷ [])
+    -- after STOP a word with no START gets no acknowledge
+    ∷ onPart3 (word 0xa0 0 ++ stop ++ byte 0xa0 2) []
+    -- the last used address: after a write at 000Fh a read begins at 0010h
+    ∷ onPart3 (put 0xa0 (two 0x0f) (0x5a ∷ []) ++ stop ++ got 0xa1 [] 0x77) (cell 0x0f 0x5a ∷ [])
+    -- WP 1 at the ninth rise: acknowledged and dropped
+    ∷ onPart3 (put 0xa0 (two 0x10) [] ++ spelled taken 0x5a 0 8 ++ sample 6 0 ++ sample 7 0 ++ stop) []
+    -- high at the master's ninth clock ends the transfer: the part sends no more
+    ∷ onPart3 (put 0xa0 (two 0x10) [] ++ word 0xa1 0 ++ given true 0x77 ++ byte 0xff 2) []
+    ∷ []
+
+-- all of them
+unfoldable pub ownCases : List (List Case)
+ownCases = runCases ∷ statusCases ∷ protectedCases ∷ topCases ∷ wordCases ∷ transferCases ∷ []

@@ -1,0 +1,164 @@
+-- Single events and makings that are refused: document 01's table 'Numbers given back', each number alone and with a reason for a later
+-- number beside it. No event can have the reasons of both 7 and 8 (no power, power is on) or of both 8 and 9 (01 or 02, 05).
+use Prim.Native.Nat.{ℕ}
+use mathlib.Core.Path.{_≡_}
+use mathlib.Core.Bool.{true, false}
+use mathlib.Core.List.{List, [], _∷_}
+use lib.ListN.{length}
+use Rattle.parts.specs.declared.answer.Answer.the-variants.{HighZ}
+use Rattle.parts.specs.declared.status.Status.{Status}
+use Rattle.parts.specs.Status.{cleared, withWel}
+use Rattle.selection.specs.Levels as SpiLevels
+use Rattle.selection.specs.declared.phase.Field.the-variants.{Opcode}
+use Rattle.selection.specs.declared.phase.Phase.the-variants.{Taking}
+use Rattle.transfer.specs.Levels as I2cLevels
+use Rattle.power.specs.Power.{spiStart, i2cStart}
+use Rattle.chip.specs.declared.model.BusState.the-variants.{SpiOn, I2cOn}
+use Rattle.chip.specs.declared.model.Model.{Model}
+use Rattle.chip.specs.Model.{modelOf, unpowered}
+use Rattle.events.specs.declared.event.Answered.{Answered}
+use Rattle.events.specs.Event.{keeping}
+use Rattle.runs.specs.Event.{eventOf}
+use Rattle.runs.specs.Run.{stop, runOf}
+use Rattle.model.specs.Make.{makeOf}
+use Rattle.worked_examples.specs.Cases.{madeOf}
+
+pub record Refusal : Type 0 where
+  pub model : Model
+  -- the length of a memory that holds any bytes
+  pub size : ℕ
+  pub event : List ℕ
+  pub number : ℕ
+
+abbrev pub refusal : Model → ℕ → List ℕ → ℕ → Refusal
+refusal s size e n = record { model = s; size = size; event = e; number = n }
+
+-- the number, answer 2 and the given state
+abbrev pub answerTo : Refusal → Answered
+answerTo x = record { number = x .number; answer = 2; model = x .model }
+
+-- on every memory of the length the event gives these, and the memory as it was
+abbrev pub EventRefused : Refusal → Type 0
+EventRefused x = (m : List ℕ) → length m ≡ x .size → eventOf (x .model) m (x .event) ≡ keeping m (answerTo x)
+
+-- and a run of it alone stops with the number, state and memory as they were and nothing accepted
+abbrev pub RunRefused : Refusal → Type 0
+RunRefused x = (m : List ℕ) → length m ≡ x .size → runOf 1 (x .event) (x .model) m ≡ stop (x .number) (x .model) m
+
+-- ---- the states
+
+-- part 0 just made and under power, and part 3 just made
+abbrev pub off : Model
+off = madeOf 0 0 0
+
+abbrev pub on : Model
+on = modelOf 0 0 cleared (SpiOn (spiStart (SpiLevels.levelsOf 25)))
+
+abbrev pub off3 : Model
+off3 = madeOf 3 0 0
+
+-- WEL set, BP1 set
+abbrev pub latched : Status
+latched = withWel cleared true
+
+abbrev pub halved : Status
+halved = record { srwd = false; bp1 = true; bp0 = false; wel = false }
+
+-- part and status register, with the bus of an I2C part that rests and this address in its buffer
+abbrev pub onI2c : ℕ → Status → ℕ → Model
+onI2c part st a = modelOf part 0 st (I2cOn (i2cStart (I2cLevels.levelsOf 3) a))
+
+-- part 0 with eight bits of an opcode that is not yet taken
+abbrev pub overfull : Model
+overfull = modelOf 0 0 cleared (SpiOn (record { last = SpiLevels.levelsOf 24; asleep = false; shown = HighZ; phase = Taking Opcode 8 0 }))
+
+-- ---- the events
+
+unfoldable pub refusals : List Refusal
+refusals =
+    -- 1: part, address pins, saved bits of part 0 without power and of part 3; with 2: WEL set without power, a buffer past the size
+    refusal (unpowered 5 0 cleared) 4096 (1 ∷ 25 ∷ []) 1
+    ∷ refusal (unpowered 0 1 cleared) 4096 (1 ∷ 25 ∷ []) 1
+    ∷ refusal (unpowered 3 8 cleared) 8192 (2 ∷ 3 ∷ 0 ∷ 0 ∷ 0 ∷ []) 1
+    ∷ refusal (unpowered 0 0 halved) 4096 (1 ∷ 25 ∷ []) 1
+    ∷ refusal (onI2c 3 halved 0) 8192 (4 ∷ 3 ∷ []) 1
+    ∷ refusal (unpowered 0 1 latched) 4096 (1 ∷ 25 ∷ []) 1
+    ∷ refusal (onI2c 3 halved 8192) 8192 (4 ∷ 3 ∷ []) 1
+    -- 2: WEL set without power and on part 3, a buffer past the size, a count out of range, the other bus with bits 0 and with bits
+    -- that part 0 may hold under power; with 3: a byte too few
+    ∷ refusal (unpowered 0 0 latched) 4096 (1 ∷ 25 ∷ []) 2
+    ∷ refusal (onI2c 3 latched 0) 8192 (4 ∷ 3 ∷ []) 2
+    ∷ refusal (onI2c 3 cleared 8192) 8192 (4 ∷ 3 ∷ []) 2
+    ∷ refusal overfull 4096 (4 ∷ 25 ∷ []) 2
+    ∷ refusal (onI2c 0 cleared 0) 4096 (4 ∷ 3 ∷ []) 2
+    ∷ refusal (onI2c 0 halved 0) 4096 (4 ∷ 3 ∷ []) 2
+    ∷ refusal (unpowered 0 0 latched) 4095 (1 ∷ 25 ∷ []) 2
+    -- 3: a byte too few, a byte too many; with 4: an unknown kind
+    ∷ refusal off 4095 (1 ∷ 25 ∷ []) 3
+    ∷ refusal off 4097 (1 ∷ 25 ∷ []) 3
+    ∷ refusal off 4095 (6 ∷ 25 ∷ []) 3
+    -- 4: unknown kinds, 02 on SPI, 01 on I2C; with 5: 02 on SPI with no body
+    ∷ refusal on 4096 (0 ∷ 25 ∷ []) 4
+    ∷ refusal on 4096 (6 ∷ 25 ∷ []) 4
+    ∷ refusal off 4096 (2 ∷ 3 ∷ 0 ∷ 0 ∷ 0 ∷ []) 4
+    ∷ refusal off3 8192 (1 ∷ 3 ∷ []) 4
+    ∷ refusal off 4096 (2 ∷ []) 4
+    -- 5: no body, a start address cut short; with 6: a sample out of range before the end
+    ∷ refusal off 4096 (1 ∷ []) 5
+    ∷ refusal off3 8192 (2 ∷ 3 ∷ 0 ∷ 0 ∷ []) 5
+    ∷ refusal off3 8192 (2 ∷ 8 ∷ 0 ∷ 0 ∷ []) 5
+    -- 6: samples of 32 and 8, a start address of the size, an expected answer of 3; with 7: no power; with 8: power is on
+    ∷ refusal on 4096 (4 ∷ 32 ∷ []) 6
+    ∷ refusal off 4096 (1 ∷ 32 ∷ []) 6
+    ∷ refusal off3 8192 (2 ∷ 8 ∷ 0 ∷ 0 ∷ 0 ∷ []) 6
+    ∷ refusal off3 8192 (2 ∷ 3 ∷ 0 ∷ 0x20 ∷ 0 ∷ []) 6
+    ∷ refusal on 4096 (5 ∷ 3 ∷ []) 6
+    ∷ refusal off 4096 (4 ∷ 32 ∷ []) 6
+    ∷ refusal on 4096 (1 ∷ 32 ∷ []) 6
+    -- 7: 03, 04 and 05 without power; with 9: a low is expected
+    ∷ refusal off 4096 (3 ∷ []) 7
+    ∷ refusal off 4096 (4 ∷ 25 ∷ []) 7
+    ∷ refusal off 4096 (5 ∷ 2 ∷ []) 7
+    ∷ refusal off 4096 (5 ∷ 0 ∷ []) 7
+    -- 8: 01 and 02 under power
+    ∷ refusal on 4096 (1 ∷ 25 ∷ []) 8
+    ∷ refusal (onI2c 3 cleared 0) 8192 (2 ∷ 3 ∷ 0 ∷ 0 ∷ 0 ∷ []) 8
+    -- 9: low and high are expected, nothing is driven; bytes after the event are ignored
+    ∷ refusal on 4096 (5 ∷ 0 ∷ []) 9
+    ∷ refusal on 4096 (5 ∷ 1 ∷ 4 ∷ []) 9
+    ∷ refusal (onI2c 3 cleared 0) 8192 (5 ∷ 0 ∷ []) 9
+    ∷ []
+
+-- 5: a single event that is empty, without power and with
+unfoldable pub emptyEvents : List Refusal
+emptyEvents = refusal off 4096 [] 5 ∷ refusal on 4096 [] 5 ∷ []
+
+-- ---- the makings
+
+pub record Making : Type 0 where
+  pub part : ℕ
+  pub pins : ℕ
+  pub bits : ℕ
+
+abbrev pub making : ℕ → ℕ → ℕ → Making
+making part pins bits = record { part = part; pins = pins; bits = bits }
+
+-- number 1 and the unpowered model of part 0 with zero pins and bits
+abbrev pub MakingRefused : Making → Type 0
+MakingRefused x = makeOf (x .part) (x .pins) (x .bits) ≡ record { number = 1; model = unpowered 0 0 cleared }
+
+-- one past each range
+unfoldable pub refusedMakings : List Making
+refusedMakings =
+    making 5 0 0
+    ∷ making 0 1 0
+    ∷ making 1 1 0
+    ∷ making 2 1 0
+    ∷ making 3 8 0
+    ∷ making 4 4 0
+    ∷ making 0 0 1
+    ∷ making 1 0 8
+    ∷ making 2 0 8
+    ∷ making 3 0 1
+    ∷ making 4 0 1
+    ∷ []
