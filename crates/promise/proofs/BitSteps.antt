@@ -28,7 +28,9 @@ use Rattle.promise.specs.Fed.{withEvent}
 use Rattle.promise.specs.Ledger.{savedIn, ledgerBits}
 use Rattle.promise.specs.Promise.{madeBy, historyOf}
 use Rattle.promise.specs.BitSteps.{BitsOldOrNew, old, written, zeroed}
+use Rattle.promise.proofs.Ranges.{made-in, made-off}
 use Rattle.promise.proofs.Joins.{fed-join}
+use Rattle.promise.proofs.Steps.{list-bits}
 
 module _ (p : Part) (made : SavedBits) where
   abbrev left : List Item → SavedBits
@@ -132,3 +134,10 @@ module _ (part pins bits : ℕ) (first : List ℕ) (es : List (List ℕ)) (t : L
           rw (q, fed-join (partOf (made .part)) es (t ∷ []) made first [])
           (on-fed (partOf (made .part)) (savedIn (made .status)) (eqb (x .number) 0) (readOf (partOf (made .part)) t) (x .answer) (historyOf made first es))
       by false q = rw q (old refl)
+
+  -- the same of the bits that the model holds, which are the ledger's after every list
+  pub model-bits-old-or-new : BitsOldOrNew (partOf (made .part)) (items (historyOf made first (es ++ (t ∷ []))))
+      (savedIn (modelAfter made first es .status)) (savedIn (modelAfter made first (es ++ (t ∷ [])) .status))
+  model-bits-old-or-new =
+      let same = list-bits made first (made-in part pins bits) (made-off part pins bits) in
+      rw (same es, same (es ++ (t ∷ []))) bits-old-or-new

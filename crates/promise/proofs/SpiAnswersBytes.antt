@@ -4,7 +4,7 @@
 use Prim.Native.Nat.{ℕ, _+_, _-_, _*_, _/_, _%_, _^_, _<_, _≤_}
 use mathlib.Core.Path.{_≡_, ap, ap₂, _∙_}
 use mathlib.Core.Bool.{Bool, true, false}
-use mathlib.Core.List.{List, [], _++_}
+use mathlib.Core.List.{List, []}
 use native.Mathlib.Nat.{mod-eq-of-lt}
 use native.Mathlib.Omega.{arith}
 use lib.ListN.{length, getD}
@@ -19,28 +19,24 @@ use Rattle.ledger.specs.SpiLedger.{Item, command, reading}
 use Rattle.ledger.specs.SpiAnswers.{memoryNow, registerNow}
 use Rattle.promise.specs.Ledger.{savedIn}
 use Rattle.promise.specs.Promise.{madeBy, historyOf}
-use Rattle.promise.specs.SpiAnswers.{seenAfter}
-use Rattle.promise.proofs.SpiAnswersShown.{fall, clocks, Clocked, rdsr-shows, read-shows}
-
--- eight bits, most significant first
-abbrev pub joined : (ℕ → ℕ) → ℕ
-joined a = 128 * a 0 + 64 * a 1 + 32 * a 2 + 16 * a 3 + 8 * a 4 + 4 * a 5 + 2 * a 6 + a 7
+use Rattle.promise.specs.SpiBytes.{Clocked, byteOf, byteShown}
+use Rattle.promise.proofs.SpiAnswersShown.{rdsr-shows, read-shows}
 
 -- a number halved eight times, with the bits left over and what is left of 256
 from-halves : (v a b c d e f g h : ℕ) (bits : ℕ → ℕ) (r : ℕ)
     → v ≡ 2 * a + bits 7 → a ≡ 2 * b + bits 6 → b ≡ 2 * c + bits 5 → c ≡ 2 * d + bits 4
     → d ≡ 2 * e + bits 3 → e ≡ 2 * f + bits 2 → f ≡ 2 * g + bits 1 → g ≡ 2 * h + bits 0
-    → v ≡ 256 * h + r → joined bits ≡ r
+    → v ≡ 256 * h + r → byteOf bits ≡ r
 from-halves v a b c d e f g h bits r p₁ p₂ p₃ p₄ p₅ p₆ p₇ p₈ q = omega arith
 
 -- the bits of a number's last byte make that byte
-eight-bits : (v : ℕ) → joined (λ k. v / 2 ^ (7 - k) % 2) ≡ v % 256
+eight-bits : (v : ℕ) → byteOf (λ k. v / 2 ^ (7 - k) % 2) ≡ v % 256
 eight-bits v =
     from-halves v (v / 2) (v / 4) (v / 8) (v / 16) (v / 32) (v / 64) (v / 128) (v / 256) (λ k. v / 2 ^ (7 - k) % 2) (v % 256)
     (omega arith) (omega arith) (omega arith) (omega arith) (omega arith) (omega arith) (omega arith) (omega arith) (omega arith)
 
-joined-same : (a b : ℕ → ℕ) → ((k : ℕ) → k < 8 → a k ≡ b k) → joined a ≡ joined b
-joined-same a b h =
+byte-same : (a b : ℕ → ℕ) → ((k : ℕ) → k < 8 → a k ≡ b k) → byteOf a ≡ byteOf b
+byte-same a b h =
     rw (h 0 (omega arith), h 1 (omega arith), h 2 (omega arith), h 3 (omega arith), h 4 (omega arith), h 5 (omega arith), h 6 (omega arith), h 7 (omega arith))
 
 -- clock 8 i + k is bit k of byte i
@@ -68,29 +64,25 @@ module _ (part pins bits : ℕ) (first : List ℕ) where
   abbrev row : Part
   row = partOf (model .part)
 
-  -- what the falls after 8 i, 8 i + 1, .. 8 i + 7 clocks show, as a byte: byte number i
-  abbrev pub byteShown : List (List ℕ) → ℕ → ℕ
-  byteShown es i = joined (λ k. seenAfter model first (es ++ clocks (8 * i + k)) fall .answer)
-
   module _ (spi : isSpi (row .bus) ≡ true) (es : List (List ℕ)) (bs : List Bool) (is : List Item) (c : Clocked part pins bits first es bs is)
       (i : ℕ) where
     -- after the opcode RDSR every byte is the ledger's status byte
     pub rdsr-bytes : reading row bs ≡ command RDSR []
-        → byteShown es i ≡ statusByte (registerNow row (savedIn (model .status)) (historyOf model first es))
+        → byteShown part pins bits first es i ≡ statusByte (registerNow row (savedIn (model .status)) (historyOf model first es))
     rdsr-bytes q =
         let v : ℕ = statusByte (registerNow row (savedIn (model .status)) (historyOf model first es)) in
-        joined-same _ (λ k. v / 2 ^ (7 - k) % 2)
+        byte-same _ (λ k. v / 2 ^ (7 - k) % 2)
         (λ k l. rdsr-shows part pins bits first spi es bs is c (8 * i + k) q .1 ∙ ap (λ (j : ℕ). v / 2 ^ (7 - j) % 2) (bit-of i k l))
         ∙ eight-bits v
         ∙ status-fits (registerNow row (savedIn (model .status)) (historyOf model first es))
 
     -- after READ and its address byte number i is the ledger's at the address and i further, modulo the size
     pub read-bytes : (address : List Bool) → length address ≡ row .width → reading row bs ≡ command READ address
-        → byteShown es i ≡ getD (memoryNow row (savedIn (model .status)) first (historyOf model first es)) ((number address + i) % row .size) 0 % 256
+        → byteShown part pins bits first es i ≡ getD (memoryNow row (savedIn (model .status)) first (historyOf model first es)) ((number address + i) % row .size) 0 % 256
     read-bytes address w q =
         let m : List ℕ = memoryNow row (savedIn (model .status)) first (historyOf model first es) in
         let v : ℕ = getD m ((number address + i) % row .size) 0 in
         let bitOf : ℕ → ℕ → ℕ = λ n j. getD m ((number address + n) % row .size) 0 / 2 ^ (7 - j) % 2 in
-        joined-same _ (λ k. v / 2 ^ (7 - k) % 2)
+        byte-same _ (λ k. v / 2 ^ (7 - k) % 2)
         (λ k l. read-shows part pins bits first spi es bs is c (8 * i + k) address w q .1 ∙ ap₂ bitOf (byte-of i k l) (bit-of i k l))
         ∙ eight-bits v

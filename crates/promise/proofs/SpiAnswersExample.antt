@@ -13,8 +13,8 @@ use Rattle.events.specs.Event.{advanceOf}
 use Rattle.runs.specs.Event.{eventOf}
 use Rattle.model.specs.Make.{makeOf}
 use Rattle.ledger.specs.SpiLedger.{ended, powerOn, selection}
-use Rattle.promise.proofs.SpiAnswersShown.{sample, clocks, Clocked}
-use Rattle.promise.proofs.SpiAnswersBytes.{byteShown, rdsr-bytes}
+use Rattle.promise.specs.SpiBytes.{sample, clocks, Clocked, byteShown}
+use Rattle.promise.proofs.SpiAnswersBytes.{rdsr-bytes}
 
 -- a bit 1 with its clock
 abbrev one : List (List ℕ)

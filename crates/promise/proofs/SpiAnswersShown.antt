@@ -30,33 +30,20 @@ use Rattle.events.specs.Event.{advanceOf}
 use Rattle.runs.specs.Event.{eventOf}
 use Rattle.ledger.specs.Bits.{number}
 use Rattle.ledger.specs.History.{Entry}
-use Rattle.ledger.specs.SpiLedger.{unended, Item, selection, lastSample, items, command, reading, asleep, SavedBits}
+use Rattle.ledger.specs.SpiLedger.{unended, Item, selection, lastSample, items, command, reading, SavedBits}
 use Rattle.ledger.specs.SpiAnswers.{readShows, memoryNow, registerNow}
 use Rattle.ledger.proofs.SpiOutputs.{reading-more, rdsr-shown, read-shown}
 use Rattle.promise.specs.Lists.{Seen, modelAfter, memoryAfter}
 use Rattle.promise.specs.Ledger.{savedIn}
 use Rattle.promise.specs.Promise.{madeBy, historyOf}
 use Rattle.promise.specs.SpiAnswers.{seenAfter}
+use Rattle.promise.specs.SpiBytes.{sample, fall, rise, clocks, Clocked}
 use Rattle.promise.proofs.Ranges.{made-in, made-off}
 use Rattle.promise.proofs.Agrees.{AgreesOn}
 use Rattle.promise.proofs.Steps.{Tested}
 use Rattle.promise.proofs.SpiAnswers.{ShowsOn, list-answers, latest, spi-answers}
 
--- a sample x; SCK falls and rises with CS# 0, SI 0, WP# 1 and HOLD# 1
-abbrev pub sample : ℕ → List ℕ
-sample x = 4 ∷ x ∷ []
-
-abbrev pub fall : List ℕ
-fall = sample 24
-
-abbrev pub rise : List ℕ
-rise = sample 26
-
--- n clocks, and the bits that they bring
-abbrev pub clocks : ℕ → List (List ℕ)
-clocks zero = []
-clocks (suc n) = clocks n ++ (fall ∷ rise ∷ [])
-
+-- the bits that n clocks bring
 abbrev zeros : ℕ → List Bool
 zeros zero = []
 zeros (suc n) = zeros n ++ (false ∷ [])
@@ -90,14 +77,6 @@ module _ (part pins bits : ℕ) (first : List ℕ) where
   abbrev made : SavedBits
   made = savedIn (model .status)
 
-  -- after the list es: the open selection has the bits bs and is heard, the part is not held, and SCK is 1
-  pub record Clocked (es : List (List ℕ)) (bs : List Bool) (is : List Item) : Type 0 where
-    pub opened : items (history es) ≡ selection bs unended ∷ is
-    pub awake : asleep row is ≡ false
-    pub selected : lastSample (history es) .cs ≡ false
-    pub clock-high : lastSample (history es) .sck ≡ true
-    pub unheld : lastSample (history es) .hold ≡ true
-
   module _ (spi : isSpi (row .bus) ≡ true) where
     -- ---- one sample more, with CS# 0 before it: there is power, so it is accepted
 
@@ -127,7 +106,7 @@ module _ (part pins bits : ℕ) (first : List ℕ) where
 
     -- ---- a fall
 
-    module _ (es : List (List ℕ)) (bs : List Bool) (is : List Item) (c : Clocked es bs is) where
+    module _ (es : List (List ℕ)) (bs : List Bool) (is : List Item) (c : Clocked part pins bits first es bs is) where
       falls : edgeOf (lastSample (history es)) (levelsOf 24) ≡ Fall
       falls = rw (c .selected, c .unheld, c .clock-high)
 
@@ -145,24 +124,24 @@ module _ (part pins bits : ℕ) (first : List ℕ) where
           ∙ rw (entry-of es (c .selected) 24 (omega arith), falls, c .opened, c .awake)
 
       -- and the rise after it brings a bit
-      after-clock : Clocked (es ++ (fall ∷ rise ∷ [])) (bs ++ (false ∷ [])) is
+      after-clock : Clocked part pins bits first (es ++ (fall ∷ rise ∷ [])) (bs ++ (false ∷ [])) is
       after-clock =
           let fs : List (List ℕ) = es ++ (fall ∷ []) in
           let low : lastSample (history fs) .cs ≡ false = rw fall-last in
           let e = entry-of fs low 26 (omega arith) in
           let r : edgeOf (lastSample (history fs)) (levelsOf 26) ≡ Rise false = rw fall-last in
-          subst (λ (ks : List (List ℕ)). Clocked ks (bs ++ (false ∷ [])) is) (append-assoc es (fall ∷ []) (rise ∷ []))
+          subst (λ (ks : List (List ℕ)). Clocked part pins bits first ks (bs ++ (false ∷ [])) is) (append-assoc es (fall ∷ []) (rise ∷ []))
           (record { opened = rw (e, r, fall-items); awake = c .awake; selected = rw e; clock-high = rw e; unheld = rw e })
 
     -- ---- n clocks
 
-    more-clocks : (n : ℕ) (es : List (List ℕ)) (bs : List Bool) (is : List Item) → Clocked es bs is → Clocked (es ++ clocks n) (bs ++ zeros n) is
+    more-clocks : (n : ℕ) (es : List (List ℕ)) (bs : List Bool) (is : List Item) → Clocked part pins bits first es bs is → Clocked part pins bits first (es ++ clocks n) (bs ++ zeros n) is
     more-clocks zero es bs is c = rw (append-nil es, append-nil bs) c
     more-clocks (suc n) es bs is c =
         let d = after-clock (es ++ clocks n) (bs ++ zeros n) is (more-clocks n es bs is c) in
         rw (← append-assoc es, ← append-assoc bs) d
 
-    module _ (es : List (List ℕ)) (bs : List Bool) (is : List Item) (c : Clocked es bs is) (n : ℕ) where
+    module _ (es : List (List ℕ)) (bs : List Bool) (is : List Item) (c : Clocked part pins bits first es bs is) (n : ℕ) where
       -- what the fall after n clocks shows
       abbrev pub atFall : Seen
       atFall = seenAfter model first (es ++ clocks n) fall

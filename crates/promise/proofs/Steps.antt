@@ -23,7 +23,7 @@ use Rattle.chip.specs.declared.model.Model.{Model}
 use Rattle.chip.specs.Check.{noBits, checkOf, Sound}
 use Rattle.events.specs.Event.{Outcome, advanceOf}
 use Rattle.chip.specs.Model.{modelOf}
-use Rattle.chip.proofs.CheckLaws.{model-in}
+use Rattle.chip.proofs.CheckLaws.{model-in, sound-in}
 use Rattle.events.proofs.Keeps.{keeps}
 use Rattle.runs.specs.Event.{onVerdict, eventOf}
 use Rattle.ledger.specs.History.{Entry}
@@ -128,6 +128,22 @@ module _ (made : Model) (first : List ℕ) where
       list-memory es =
           memory-agrees made first (modelAfter made first es .bus) (modelAfter made first es .status) (memoryAfter made first es)
           (historyOf made first es) (list-fits es .agrees)
+
+      -- and the register holds the ledger's bits
+      status-bits : (b : BusState) (s : Model) (m : List ℕ) (h : List Entry) → s .bus ≡ b → s .part ≡ made .part → Tested b s m
+          → AgreesOn made first b (s .status) m h → savedIn (s .status) ≡ ledgerBits made h
+      status-bits Unpowered s m h k p t f = ap savedIn (f .1)
+      status-bits (SpiOn x) s m h k p t f = rw (f .0) (ap savedIn (f .1 .status-is))
+      status-bits (I2cOn x) s m h k p t f =
+          let a = sound-in s m t in
+          let n = rw (k, p, i2c-unsaved (made .part) (f .0), f .0) at (a .model .bits) in
+          let w = and-both (not (s .status .wel)) _ (and-both (not (isSpi (partOf (s .part) .bus))) _ (rw k at (a .bus)) .1) .0 in
+          rw (f .0) (ap savedIn (bare (s .status) n w))
+
+      pub list-bits : (es : List (List ℕ)) → savedIn (modelAfter made first es .status) ≡ ledgerBits made (historyOf made first es)
+      list-bits es =
+          status-bits (modelAfter made first es .bus) (modelAfter made first es) (memoryAfter made first es) (historyOf made first es) refl
+          (list-fits es .part-is) (list-fits es .passed) (list-fits es .agrees)
 
 -- ---- a cut
 

@@ -9,3 +9,4 @@ pub mod RunEvents
 pub mod Reached
 pub mod Corollaries
 pub mod BitSteps
+pub mod SpiBytes
