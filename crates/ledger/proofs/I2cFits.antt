@@ -23,6 +23,7 @@ use Rattle.i2c.specs.Store.{riseWrite}
 use Rattle.ledger.specs.Stores.{stored}
 use Rattle.ledger.specs.I2cLedger.{Clock, Item, idle, span, withClock, noted, Wires, wiresAt, edgeBetween, writes}
 use Rattle.ledger.proofs.StoreLaws.{stored-append, applied-stored}
+use Rattle.ledger.proofs.WordLaws.{Wired}
 use Rattle.ledger.proofs.I2cReads.{after, after-more, wrote-more, span-wrote}
 
 -- ---- the edge that the part goes by is the one that the wires show
@@ -83,13 +84,13 @@ module _ (p : Part) (pins : ℕ) (m₀ : List ℕ) where
     pub wires-are : w ≡ wiresAt (s .last) (answerNumber (answerOf (s .pulling)))
 
   -- a rise of SCL
-  module _ (ph : Phase) (b : AddressBuffer) (m : List ℕ) (k : Clock) where
+  module _ (wired : Wired p pins) (ph : Phase) (b : AddressBuffer) (m : List ℕ) (k : Clock) where
     rise-memory : (is : List Item) → Led ph b is → m ≡ stored m₀ (writes p pins is)
         → applied (riseWrite ph (k .wp)) m ≡ stored m₀ (writes p pins (withClock k is))
     rise-memory [] i e = rw i e
     rise-memory (idle ∷ is) i e = rw i e
     rise-memory (span ks ∷ is) (b₀, f) e =
-        rw (← span-wrote p pins b₀ (ks ++ (k ∷ [])), wrote-more, f, ← append-assoc, stored-append, span-wrote, ← e)
+        rw (← span-wrote p pins wired b₀ (ks ++ (k ∷ [])), wrote-more, f, ← append-assoc, stored-append, span-wrote p pins wired, ← e)
         (applied-stored (riseWrite ph (k .wp)) m)
 
     rise-led : (is : List Item) → Led ph b is → Led (afterRise p pins b ph (k .line)) (bufferAfter p b ph) (withClock k is)
@@ -98,7 +99,7 @@ module _ (p : Part) (pins : ℕ) (m₀ : List ℕ) where
     rise-led (span ks ∷ is) (b₀, e) = (b₀, rw (after-more, e))
 
   -- one sample, edge by edge
-  module _ (s : I2c) (l : Levels) (m : List ℕ) (is : List Item) (i : m ≡ stored m₀ (writes p pins is)) (j : Led (s .phase) (s .buffer) is) where
+  module _ (wired : Wired p pins) (s : I2c) (l : Levels) (m : List ℕ) (is : List Item) (i : m ≡ stored m₀ (writes p pins is)) (j : Led (s .phase) (s .buffer) is) where
     on-edge : (e : Edge)
         → let o : Outcome = stepOn e p pins s l m in
         Good (o .i2c) (applied (o .write) m) (noted e (l .wp) is) (wiresAt l (answerNumber (o .answer)))
@@ -106,17 +107,17 @@ module _ (p : Part) (pins : ℕ) (m₀ : List ℕ) where
     on-edge Stop = record { memory-is = i; led = refl; wires-are = refl }
     on-edge (Rise line) =
         let k : Clock = record { line = line; wp = l .wp } in
-        record { memory-is = rise-memory (s .phase) (s .buffer) m k is j i; led = rise-led (s .phase) (s .buffer) m k is j; wires-are = refl }
+        record { memory-is = rise-memory wired (s .phase) (s .buffer) m k is j i; led = rise-led wired (s .phase) (s .buffer) m k is j; wires-are = refl }
     on-edge Fall = record { memory-is = i; led = j; wires-are = refl }
     on-edge Quiet = record { memory-is = i; led = j; wires-are = refl }
 
-  pub sample-good : (s : I2c) (l : Levels) (m : List ℕ) (is : List Item) (w : Wires) → Good s m is w
+  pub sample-good : Wired p pins → (s : I2c) (l : Levels) (m : List ℕ) (is : List Item) (w : Wires) → Good s m is w
       → let o : Outcome = stepOf p pins s l m in
       let w′ : Wires = wiresAt l (answerNumber (o .answer)) in
       Good (o .i2c) (applied (o .write) m) (noted (edgeBetween w w′) (l .wp) is) w′
   unfolding stepOf
-  sample-good s l m is w g =
-      rw (g .wires-are, same-edge p pins m s l) (on-edge s l m is (g .memory-is) (g .led) (edgeOf (s .pulling) (s .last) l))
+  sample-good wired s l m is w g =
+      rw (g .wires-are, same-edge p pins m s l) (on-edge wired s l m is (g .memory-is) (g .led) (edgeOf (s .pulling) (s .last) l))
 
   -- power on
   pub power-good : (l : Levels) (a : ℕ) (m : List ℕ) (is : List Item) → m ≡ stored m₀ (writes p pins is)

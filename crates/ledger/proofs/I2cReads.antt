@@ -1,13 +1,17 @@
 -- The clocks of a span, taken from the left: where they lead the phase and the address buffer, and that what they write is what
 -- the ledger reads off their bytes, whatever the buffer was. Assumes nothing.
-use Prim.Native.Nat.{ℕ, _+_}
-use mathlib.Core.Path.{_≡_, refl, _∙_}
+use Prim.Native.Nat.{ℕ, zero, suc, _+_}
+use mathlib.Core.Path.{_≡_, refl, ap, _∙_}
 use mathlib.Core.Bool.{Bool, true, false, cond}
-use mathlib.Core.List.{List, [], _∷_, _++_}
+use mathlib.Core.List.{List, [], _∷_, _++_, map, map-append}
+use native.Mathlib.Omega.{arith}
 use lib.Dec.{ltb}
+use lib.ListN.{length, length-append, length-map}
+use borrow.Author.Tests.{lt-ltb, le-ltb}
 use Rattle.parts.specs.declared.part.Part.{Part}
 use Rattle.serial.specs.declared.write.Write.the-variants as write
 use Rattle.serial.specs.Address.{nextAddress}
+use Rattle.serial.specs.Bits.{shifted}
 use Rattle.transfer.specs.declared.buffer.AddressBuffer.{AddressBuffer}
 use Rattle.transfer.specs.declared.phase.Field.{Field}
 use Rattle.transfer.specs.declared.phase.Field.the-variants.{Word, HighByte, LowByte, Data}
@@ -20,10 +24,32 @@ use Rattle.transfer.specs.Phase.{begun, finished, afterRise}
 use Rattle.i2c.specs.Store.{fieldWrite, riseWrite}
 use Rattle.transfer.specs.Word.{wordOf}
 use Rattle.ledger.specs.Stores.{Store}
-use Rattle.ledger.specs.I2cLedger.{Clock, Byte, bytes, placed, written, byWord, stores}
+use Rattle.ledger.specs.Bits.{number}
+use Rattle.ledger.specs.Groups.{Group, groupsFrom}
+use Rattle.ledger.specs.I2cLedger.{Clock, Byte, value, lineAt, nineRises, risesIn, bytes, placed, written, byWord, stores}
 use Rattle.ledger.proofs.Folds as Folds
 use Rattle.ledger.proofs.Folds.{after-snoc, given-snoc}
+use Rattle.ledger.proofs.GroupLaws.{number-snoc, Fronts, fronts}
+use Rattle.ledger.proofs.WordLaws.{Wired, word-in, address-after}
 use Rattle.ledger.proofs.StoreLaws.{storesOf}
+
+-- ---- the rises of a span by nines
+
+-- a line more
+pub lines-snoc : (xs : List Clock) (k : Clock) → number (map lineAt (xs ++ (k ∷ []))) ≡ shifted (number (map lineAt xs)) (k .line)
+lines-snoc xs k = ap number (map-append lineAt xs (k ∷ [])) ∙ number-snoc (map lineAt xs) (k .line)
+
+-- each whole byte has eight bits
+abbrev pub Eights : List Byte → Type 0
+Eights [] = Unit {0}
+Eights (v ∷ vs) = (length (v .bits) ≡ 8) × Eights vs
+
+eights-in : (gs : List (Group Clock)) → Fronts 8 gs → Eights (map nineRises gs)
+eights-in [] h = tt
+eights-in (g ∷ gs) h = (length-map (g .front) lineAt ∙ h .0, eights-in gs (h .1))
+
+pub eights : (ks : List Clock) → Eights (bytes ks)
+eights ks = eights-in (risesIn ks .whole) (fronts 8 ks)
 
 -- what moves in a span
 pub record Place : Type 0 where
@@ -77,7 +103,7 @@ module _ (p : Part) (pins : ℕ) where
   fieldStores Word vs = stores p pins vs
   fieldStores (HighByte a16) vs = written p a16 vs
   fieldStores (LowByte a16 high) [] = []
-  fieldStores (LowByte a16 high) (low ∷ vs) = placed p (joined p a16 high (low .value)) vs
+  fieldStores (LowByte a16 high) (low ∷ vs) = placed p (joined p a16 high (value low)) vs
   fieldStores (Data a) vs = placed p a vs
 
   no-byte : (f : Field) → [] ≡ fieldStores f []
@@ -86,42 +112,42 @@ module _ (p : Part) (pins : ℕ) where
   no-byte (LowByte a16 high) = refl
   no-byte (Data a) = refl
 
-  after-high : (a16 : Bool) (high : Byte) (vs : List Byte) → fieldStores (LowByte a16 (high .value)) vs ≡ written p a16 (high ∷ vs)
-  after-high a16 high [] = refl
-  after-high a16 high (low ∷ vs) = refl
+  after-high : (a16 : Bool) (high : Byte) (vs : List Byte) → length (high .bits) ≡ 8 → Eights vs
+      → fieldStores (LowByte a16 (value high)) vs ≡ written p a16 (high ∷ vs)
+  after-high a16 high [] h hs = refl
+  after-high a16 high (low ∷ vs) h hs = rw (address-after p a16 (high .bits) (low .bits) h (hs .0))
 
   after-data : (a v : ℕ) (wp : Bool) {ws us : List Store} → ws ≡ us
       → storesOf (cond wp write.Nothing (write.Byte a v)) ++ ws ≡ cond wp us (record { address = a; value = v } ∷ us)
   after-data a v true e = e
   after-data a v false e = rw e
 
-  -- a whole byte, given what the clocks after it write
-  module _ (ks : List Clock) (vs : List Byte) (rest : (f : Field) (b : AddressBuffer) → wrote (Taking f 0 0) b ks ≡ fieldStores f vs) where
-    by-word : (b : AddressBuffer) (w : DeviceWord) → wrote (begun p b w) b ks ≡ byWord p w vs
-    by-word b (ReadWord a16) = sending-wrote ks _ 0 b
-    by-word b (WriteWord a16) = rest (HighByte a16) b
-    by-word b OtherWord = deaf-wrote b ks
+  module _ (wired : Wired p pins) where
+    -- a whole byte, given what the clocks after it write
+    module _ (ks : List Clock) (vs : List Byte) (rest : (f : Field) (b : AddressBuffer) → wrote (Taking f 0 0) b ks ≡ fieldStores f vs) where
+      by-word : (b : AddressBuffer) (w : DeviceWord) → wrote (begun p b w) b ks ≡ byWord p w vs
+      by-word b (ReadWord a16) = sending-wrote ks _ 0 b
+      by-word b (WriteWord a16) = rest (HighByte a16) b
+      by-word b OtherWord = deaf-wrote b ks
 
-    by-field : (f : Field) (b : AddressBuffer) (v : Byte)
-        → storesOf (fieldWrite f (v .value) (v .wp)) ++ wrote (finished p pins b f (v .value)) (fieldBuffer p b f (v .value)) ks ≡ fieldStores f (v ∷ vs)
-    by-field Word b v = by-word b (wordOf p pins (v .value))
-    by-field (HighByte a16) b v = rest (LowByte a16 (v .value)) b ∙ after-high a16 v vs
-    by-field (LowByte a16 high) b v = rest (Data (joined p a16 high (v .value))) _
-    by-field (Data a) b v = after-data a (v .value) (v .wp) (rest (Data (nextAddress (p .size) a)) _)
+      by-field : (f : Field) (b : AddressBuffer) (v : Byte) → length (v .bits) ≡ 8 → Eights vs
+          → storesOf (fieldWrite f (value v) (v .wp)) ++ wrote (finished p pins b f (value v)) (fieldBuffer p b f (value v)) ks ≡ fieldStores f (v ∷ vs)
+      by-field Word b v h hs = rw (word-in p pins wired (v .bits) h) (by-word b (wordOf p pins (value v)))
+      by-field (HighByte a16) b v h hs = rest (LowByte a16 (value v)) b ∙ after-high a16 v vs h hs
+      by-field (LowByte a16 high) b v h hs = rest (Data (joined p a16 high (value v))) _
+      by-field (Data a) b v h hs = after-data a (value v) (v .wp) (rest (Data (nextAddress (p .size) a)) _)
 
-  -- nine clocks make a byte, and fewer write nothing
-  field-wrote : (ks : List Clock) (f : Field) (b : AddressBuffer) → wrote (Taking f 0 0) b ks ≡ fieldStores f (bytes ks)
-  field-wrote [] f b = no-byte f
-  field-wrote (a₁ ∷ []) f b = no-byte f
-  field-wrote (a₁ ∷ a₂ ∷ []) f b = no-byte f
-  field-wrote (a₁ ∷ a₂ ∷ a₃ ∷ []) f b = no-byte f
-  field-wrote (a₁ ∷ a₂ ∷ a₃ ∷ a₄ ∷ []) f b = no-byte f
-  field-wrote (a₁ ∷ a₂ ∷ a₃ ∷ a₄ ∷ a₅ ∷ []) f b = no-byte f
-  field-wrote (a₁ ∷ a₂ ∷ a₃ ∷ a₄ ∷ a₅ ∷ a₆ ∷ []) f b = no-byte f
-  field-wrote (a₁ ∷ a₂ ∷ a₃ ∷ a₄ ∷ a₅ ∷ a₆ ∷ a₇ ∷ []) f b = no-byte f
-  field-wrote (a₁ ∷ a₂ ∷ a₃ ∷ a₄ ∷ a₅ ∷ a₆ ∷ a₇ ∷ a₈ ∷ []) f b = no-byte f
-  field-wrote (a₁ ∷ a₂ ∷ a₃ ∷ a₄ ∷ a₅ ∷ a₆ ∷ a₇ ∷ a₈ ∷ a₉ ∷ ks) f b = by-field ks (bytes ks) (field-wrote ks) f b _
+    -- with the rises xs of a byte over, n of them, and r more before its ninth
+    field-from : (ks xs : List Clock) (f : Field) (b : AddressBuffer) (n r : ℕ) → n + r ≡ 8 → length xs ≡ n
+        → wrote (Taking f n (number (map lineAt xs))) b ks ≡ fieldStores f (map nineRises (groupsFrom 8 r xs ks .whole))
+    field-from [] xs f b n r h l = no-byte f
+    field-from (k ∷ ks) xs f b n zero h l =
+        rw (le-ltb n 8 (omega arith))
+        (by-field ks (bytes ks) (λ g c. field-from ks [] g c 0 8 refl refl) f b (nineRises (record { front = xs; last = k }))
+        (length-map xs lineAt ∙ l ∙ omega arith) (eights ks))
+    field-from (k ∷ ks) xs f b n (suc r) h l =
+        rw (lt-ltb n 8 (omega arith), ← lines-snoc) (field-from ks (xs ++ (k ∷ [])) f b (n + 1) r (omega arith) (rw (length-append, l)))
 
-  -- a span writes what the ledger reads off it
-  pub span-wrote : (b : AddressBuffer) (ks : List Clock) → wrote (Taking Word 0 0) b ks ≡ stores p pins (bytes ks)
-  span-wrote b ks = field-wrote ks Word b
+    -- a span writes what the ledger reads off it
+    pub span-wrote : (b : AddressBuffer) (ks : List Clock) → wrote (Taking Word 0 0) b ks ≡ stores p pins (bytes ks)
+    span-wrote b ks = field-from ks [] Word b 0 8 refl refl

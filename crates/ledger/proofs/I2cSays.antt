@@ -10,11 +10,11 @@ use Rattle.transfer.specs.declared.buffer.AddressBuffer.{AddressBuffer}
 use Rattle.transfer.specs.declared.edge.Edge.the-variants.{Start, Stop, Fall}
 use Rattle.transfer.specs.declared.word.DeviceWord.the-variants.{WriteWord, OtherWord}
 use Rattle.transfer.specs.Levels.{levelsOf}
-use Rattle.transfer.specs.Word.{wordOf}
-use Rattle.ledger.specs.Bits.{number}
+use Rattle.i2c.specs.Pull.{ours}
+use Rattle.ledger.specs.Word.{wordIn}
 use Rattle.ledger.specs.History.{Entry}
-use Rattle.ledger.specs.I2cLedger.{Clock, Byte, bytes, wiresAt, edgeBetween, lastWires, items}
-use Rattle.ledger.specs.I2cAnswers.{unfinished, eighth, isOwn, after, fallIn, pullsSince, memoryOf, bufferBefore, pulls, pullAnswer, presentAnswer, i2cAnswer}
+use Rattle.ledger.specs.I2cLedger.{Clock, Byte, bytes, unfinished, wiresAt, edgeBetween, lastWires, items}
+use Rattle.ledger.specs.I2cAnswers.{eighth, after, fallIn, pullsSince, memoryOf, bufferBefore, pulls, pullAnswer, presentAnswer, i2cAnswer}
 
 module _ (p : Part) (pins : ℕ) (first : List ℕ) (h : List Entry) where
   -- an event after the history h, whatever answer it is entered with
@@ -53,7 +53,7 @@ module _ (p : Part) (pins : ℕ) (m : List ℕ) (b : AddressBuffer) (ks : List C
   pulled = pullsSince p pins m b (after ks)
 
   -- the first byte is acknowledged after its eighth rise if it is an own word
-  pub word-acknowledged : bytes ks ≡ [] → eighth (unfinished ks) ≡ true → pulled ≡ isOwn (wordOf p pins (number (unfinished ks)))
+  pub word-acknowledged : bytes ks ≡ [] → eighth (unfinished ks) ≡ true → pulled ≡ ours (wordIn p pins (unfinished ks))
   word-acknowledged n e = rw (n, e)
 
   -- before it nothing is pulled
@@ -61,10 +61,10 @@ module _ (p : Part) (pins : ℕ) (m : List ℕ) (b : AddressBuffer) (ks : List C
   word-waits n e = rw (n, e)
 
   -- after an own write word every byte is acknowledged after its eighth rise, and nothing else is pulled
-  pub write-acknowledges : (word : Byte) (vs : List Byte) (a16 : Bool) → bytes ks ≡ word ∷ vs → wordOf p pins (word .value) ≡ WriteWord a16
+  pub write-acknowledges : (word : Byte) (vs : List Byte) (a16 : Bool) → bytes ks ≡ word ∷ vs → wordIn p pins (word .bits) ≡ WriteWord a16
       → pulled ≡ eighth (unfinished ks)
   write-acknowledges word vs a16 n w = rw (n, w)
 
   -- after another word nothing is pulled
-  pub other-waits : (word : Byte) (vs : List Byte) → bytes ks ≡ word ∷ vs → wordOf p pins (word .value) ≡ OtherWord → pulled ≡ false
+  pub other-waits : (word : Byte) (vs : List Byte) → bytes ks ≡ word ∷ vs → wordIn p pins (word .bits) ≡ OtherWord → pulled ≡ false
   other-waits word vs n w = rw (n, w)

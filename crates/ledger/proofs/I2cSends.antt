@@ -16,9 +16,9 @@ use Rattle.serial.proofs.AddressLaws.{next-within}
 use Rattle.transfer.specs.declared.buffer.AddressBuffer.{AddressBuffer}
 use Rattle.transfer.specs.declared.word.DeviceWord.the-variants.{ReadWord}
 use Rattle.transfer.specs.Buffer.{readAddress}
-use Rattle.transfer.specs.Word.{wordOf}
-use Rattle.ledger.specs.I2cLedger.{Clock, Byte, bytes}
-use Rattle.ledger.specs.I2cAnswers.{unfinished, showsLow, sendsLow, spanPulls}
+use Rattle.ledger.specs.Word.{wordIn}
+use Rattle.ledger.specs.I2cLedger.{Clock, Byte, bytes, unfinished}
+use Rattle.ledger.specs.I2cAnswers.{showsLow, sendsLow, spanPulls}
 
 -- each of the bytes asked for the next one
 abbrev pub AllLow : List Byte → Type 0
@@ -46,7 +46,7 @@ module _ (p : Part) (m : List ℕ) where
 
   -- after an own read word and bytes that each asked for the next one, with k of the rises of a byte over
   pub span-sends : (pins : ℕ) (b : AddressBuffer) (ks : List Clock) (word : Byte) (vs : List Byte) (a16 : Bool) → readAddress p b a16 < p .size
-      → bytes ks ≡ word ∷ vs → wordOf p pins (word .value) ≡ ReadWord a16 → AllLow vs → length (unfinished ks) < 8
+      → bytes ks ≡ word ∷ vs → wordIn p pins (word .bits) ≡ ReadWord a16 → AllLow vs → length (unfinished ks) < 8
       → spanPulls p pins m b (bytes ks) (unfinished ks)
       ≡ not (bitAt (getD m ((readAddress p b a16 + length vs) % p .size) 0) (length (unfinished ks)))
   span-sends pins b ks word vs a16 i n w l k =

@@ -1,12 +1,16 @@
 -- The clocks of a span, taken from the left, lead to a phase that pulls after a fall, and to an address buffer, as the whole bytes
 -- and the lines of the byte begun say; and what a span writes does not change what it pulls. Assumes nothing.
-use Prim.Native.Nat.{ℕ}
-use mathlib.Core.Path.{_≡_, refl}
-use mathlib.Core.Bool.{Bool, true, false, cond}
-use mathlib.Core.List.{List, [], _∷_, _++_}
+use Prim.Native.Nat.{ℕ, zero, suc, _+_, _≤_}
+use mathlib.Core.Path.{_≡_, refl, sym, ap, _∙_}
+use mathlib.Core.Bool.{Bool, true, false, cond, not, _&&_}
+use mathlib.Core.List.{List, [], _∷_, _++_, map, map-append}
+use native.Mathlib.Omega.{arith}
 use lib.Dec.{ltb}
+use lib.ListN.{length, getD, length-append, length-map}
+use borrow.Author.Tests.{lt-ltb, le-ltb, ltb-true, ltb-false, ne-eqb}
 use Rattle.parts.specs.declared.part.Part.{Part}
 use Rattle.serial.specs.Address.{nextAddress}
+use Rattle.serial.specs.Bits.{bitAt}
 use Rattle.transfer.specs.declared.buffer.AddressBuffer.{AddressBuffer}
 use Rattle.transfer.specs.declared.phase.Field.{Field}
 use Rattle.transfer.specs.declared.phase.Field.the-variants.{Word, HighByte, LowByte, Data}
@@ -15,18 +19,24 @@ use Rattle.transfer.specs.declared.word.DeviceWord.{DeviceWord}
 use Rattle.transfer.specs.declared.word.DeviceWord.the-variants.{ReadWord, WriteWord, OtherWord}
 use Rattle.transfer.specs.Buffer.{joined, readAddress, fieldBuffer}
 use Rattle.transfer.specs.Phase.{begun, finished}
-use Rattle.i2c.specs.Pull.{pullsAfter, ours}
+use Rattle.i2c.specs.Pull.{ours, pullsAfter}
 use Rattle.transfer.specs.Word.{wordOf}
 use Rattle.ledger.specs.Bits.{number}
+use Rattle.ledger.specs.Groups.{groupsFrom}
 use Rattle.ledger.specs.Stores.{stored}
-use Rattle.ledger.specs.I2cLedger.{Clock, Byte, bytes, byWord, stores}
-use Rattle.ledger.specs.I2cAnswers.{unfinished, usedAt, unusedAt, takenBuffer, writtenBuffer, sentBuffer, wordBuffer, spanBuffer, eighth, isOwn, sendsLow, wordPulls, spanPulls}
-use Rattle.ledger.proofs.I2cReads.{Place, after}
+use Rattle.ledger.specs.Word.{wordIn}
+use Rattle.ledger.specs.I2cLedger.{Clock, Byte, value, lineAt, nineRises, bytes, unfinished, byWord, stores}
+use Rattle.ledger.specs.I2cAnswers.{usedAt, unusedAt, takenBuffer, writtenBuffer, sentBuffer, wordBuffer, spanBuffer, eighth, showsLow, sendsLow, wordPulls, spanPulls}
+use Rattle.ledger.proofs.GroupLaws.{longer}
+use Rattle.ledger.proofs.WordLaws.{Wired, word-in, address-after}
+use Rattle.ledger.proofs.I2cReads.{lines-snoc, Eights, eights, Place, after}
 
-own-word : (w : DeviceWord) → ours w ≡ isOwn w
-own-word (ReadWord a16) = refl
-own-word (WriteWord a16) = refl
-own-word OtherWord = refl
+-- the whole bytes and the lines of the byte begun, after the rises xs of a first byte
+abbrev bytesFrom : ℕ → List Clock → List Clock → List Byte
+bytesFrom r xs ks = map nineRises (groupsFrom 8 r xs ks .whole)
+
+abbrev unfinishedFrom : ℕ → List Clock → List Clock → List Bool
+unfinishedFrom r xs ks = map lineAt (groupsFrom 8 r xs ks .left)
 
 module _ (p : Part) (pins : ℕ) (m : List ℕ) where
   -- a place from which the part pulls so after a fall, with this address buffer
@@ -40,29 +50,34 @@ module _ (p : Part) (pins : ℕ) (m : List ℕ) where
 
   -- ---- bytes that go out
 
-  abbrev SendingTold : List Clock → ℕ → AddressBuffer → Type 0
-  SendingTold ks a b = Told (after p pins (Sending a 0) b ks) (sendsLow p m a (bytes ks) (unfinished ks)) (sentBuffer p b a (bytes ks))
+  -- with the rises xs of a byte over, n of them, and r more before its ninth
+  abbrev SendingTold : List Clock → List Clock → ℕ → ℕ → ℕ → AddressBuffer → Type 0
+  SendingTold ks xs n r a b =
+      Told (after p pins (Sending a n) b ks) (sendsLow p m a (bytesFrom r xs ks) (unfinishedFrom r xs ks)) (sentBuffer p b a (bytesFrom r xs ks))
 
   -- the line at the ninth rise
-  ninth-told : (ks : List Clock) (a : ℕ) (y : Bool) → SendingTold ks (nextAddress (p .size) a) (usedAt a)
+  ninth-told : (ks : List Clock) (a : ℕ) (y : Bool) → SendingTold ks [] 0 8 (nextAddress (p .size) a) (usedAt a)
       → Told (after p pins (cond y Deaf (Sending (nextAddress (p .size) a) 0)) (usedAt a) ks)
       (cond y false (sendsLow p m (nextAddress (p .size) a) (bytes ks) (unfinished ks)))
       (cond y (usedAt a) (sentBuffer p (usedAt a) (nextAddress (p .size) a) (bytes ks)))
   ninth-told ks a true t = deaf-told (usedAt a) ks
   ninth-told ks a false t = t
 
-  sending-told : (ks : List Clock) (a : ℕ) (b : AddressBuffer) → SendingTold ks a b
-  sending-told [] a b = record { pull-is = refl; buffer-is = refl }
-  sending-told (a₁ ∷ []) a b = record { pull-is = refl; buffer-is = refl }
-  sending-told (a₁ ∷ a₂ ∷ []) a b = record { pull-is = refl; buffer-is = refl }
-  sending-told (a₁ ∷ a₂ ∷ a₃ ∷ []) a b = record { pull-is = refl; buffer-is = refl }
-  sending-told (a₁ ∷ a₂ ∷ a₃ ∷ a₄ ∷ []) a b = record { pull-is = refl; buffer-is = refl }
-  sending-told (a₁ ∷ a₂ ∷ a₃ ∷ a₄ ∷ a₅ ∷ []) a b = record { pull-is = refl; buffer-is = refl }
-  sending-told (a₁ ∷ a₂ ∷ a₃ ∷ a₄ ∷ a₅ ∷ a₆ ∷ []) a b = record { pull-is = refl; buffer-is = refl }
-  sending-told (a₁ ∷ a₂ ∷ a₃ ∷ a₄ ∷ a₅ ∷ a₆ ∷ a₇ ∷ []) a b = record { pull-is = refl; buffer-is = refl }
-  sending-told (a₁ ∷ a₂ ∷ a₃ ∷ a₄ ∷ a₅ ∷ a₆ ∷ a₇ ∷ a₈ ∷ []) a b = record { pull-is = refl; buffer-is = refl }
-  sending-told (a₁ ∷ a₂ ∷ a₃ ∷ a₄ ∷ a₅ ∷ a₆ ∷ a₇ ∷ a₈ ∷ a₉ ∷ ks) a b =
-      ninth-told ks a (a₉ .line) (sending-told ks (nextAddress (p .size) a) (usedAt a))
+  -- with fewer than nine rises over, the bits shown are those of the lines so far
+  shows-low : (xs : List Clock) (a n : ℕ) → length xs ≡ n
+      → cond (ltb n 8) (not (bitAt (getD m a 0) n)) false ≡ showsLow (getD m a 0) (map lineAt xs)
+  shows-low xs a n l = rw (length-map xs lineAt, l) (by (ltb n 8) (not (bitAt (getD m a 0) n)))
+    where
+      by : (t u : Bool) → cond t u false ≡ (t && u)
+      by true u = refl
+      by false u = refl
+
+  sending-from : (ks xs : List Clock) (a : ℕ) (b : AddressBuffer) (n r : ℕ) → n + r ≡ 8 → length xs ≡ n → SendingTold ks xs n r a b
+  sending-from [] xs a b n r h l = record { pull-is = shows-low xs a n l; buffer-is = refl }
+  sending-from (k ∷ ks) xs a b n zero h l =
+      rw (le-ltb n 8 (omega arith)) (ninth-told ks a (k .line) (sending-from ks [] (nextAddress (p .size) a) (usedAt a) 0 8 refl refl))
+  sending-from (k ∷ ks) xs a b n (suc r) h l =
+      rw (lt-ltb n 8 (omega arith)) (sending-from ks (xs ++ (k ∷ [])) a b (n + 1) r (omega arith) (rw (length-append, l)))
 
   -- ---- bytes that come in
 
@@ -77,84 +92,89 @@ module _ (p : Part) (pins : ℕ) (m : List ℕ) where
   fieldLeft Word b vs = spanBuffer p pins b vs
   fieldLeft (HighByte a16) b vs = writtenBuffer p b a16 vs
   fieldLeft (LowByte a16 high) b [] = b
-  fieldLeft (LowByte a16 high) b (low ∷ vs) = takenBuffer p (unusedAt (joined p a16 high (low .value))) (joined p a16 high (low .value)) vs
+  fieldLeft (LowByte a16 high) b (low ∷ vs) = takenBuffer p (unusedAt (joined p a16 high (value low))) (joined p a16 high (value low)) vs
   fieldLeft (Data a) b vs = takenBuffer p b a vs
 
-  abbrev FieldTold : List Clock → Field → AddressBuffer → Type 0
-  FieldTold ks f b = Told (after p pins (Taking f 0 0) b ks) (fieldPulls f b (bytes ks) (unfinished ks)) (fieldLeft f b (bytes ks))
+  after-high : (a16 : Bool) (high : Byte) (b : AddressBuffer) (vs : List Byte) → length (high .bits) ≡ 8 → Eights vs
+      → fieldLeft (LowByte a16 (value high)) b vs ≡ writtenBuffer p b a16 (high ∷ vs)
+  after-high a16 high b [] h hs = refl
+  after-high a16 high b (low ∷ vs) h hs = rw (address-after p a16 (high .bits) (low .bits) h (hs .0))
 
-  -- fewer than eight rises, and eight
-  few : (f : Field) (b : AddressBuffer) (n v : ℕ) (bs : List Bool) → ltb n 8 ≡ true → eighth bs ≡ false
-      → Told (record { phase = Taking f n v; buffer = b }) (fieldPulls f b [] bs) (fieldLeft f b [])
-  few Word b n v bs h e = record { pull-is = rw (h, e); buffer-is = refl }
-  few (HighByte a16) b n v bs h e = record { pull-is = rw (h, e); buffer-is = refl }
-  few (LowByte a16 high) b n v bs h e = record { pull-is = rw (h, e); buffer-is = refl }
-  few (Data a) b n v bs h e = record { pull-is = rw (h, e); buffer-is = refl }
+  -- with the rises xs of a byte over, n of them, and r more before its ninth
+  abbrev FieldTold : List Clock → List Clock → ℕ → ℕ → Field → AddressBuffer → Type 0
+  FieldTold ks xs n r f b =
+      Told (after p pins (Taking f n (number (map lineAt xs))) b ks) (fieldPulls f b (bytesFrom r xs ks) (unfinishedFrom r xs ks))
+      (fieldLeft f b (bytesFrom r xs ks))
 
-  eight : (f : Field) (b : AddressBuffer) (bs : List Bool) → eighth bs ≡ true
-      → Told (record { phase = Taking f 8 (number bs); buffer = b }) (fieldPulls f b [] bs) (fieldLeft f b [])
-  eight Word b bs e = record { pull-is = rw e (own-word (wordOf p pins (number bs))); buffer-is = refl }
-  eight (HighByte a16) b bs e = record { pull-is = rw e; buffer-is = refl }
-  eight (LowByte a16 high) b bs e = record { pull-is = rw e; buffer-is = refl }
-  eight (Data a) b bs e = record { pull-is = rw e; buffer-is = refl }
+  module _ (wired : Wired p pins) where
+    -- fewer than eight rises, and eight
+    few : (f : Field) (b : AddressBuffer) (n v : ℕ) (bs : List Bool) → ltb n 8 ≡ true → eighth bs ≡ false
+        → Told (record { phase = Taking f n v; buffer = b }) (fieldPulls f b [] bs) (fieldLeft f b [])
+    few Word b n v bs h e = record { pull-is = rw (h, e); buffer-is = refl }
+    few (HighByte a16) b n v bs h e = record { pull-is = rw (h, e); buffer-is = refl }
+    few (LowByte a16 high) b n v bs h e = record { pull-is = rw (h, e); buffer-is = refl }
+    few (Data a) b n v bs h e = record { pull-is = rw (h, e); buffer-is = refl }
 
-  after-high : (a16 : Bool) (high : Byte) (b : AddressBuffer) (vs : List Byte)
-      → fieldLeft (LowByte a16 (high .value)) b vs ≡ writtenBuffer p b a16 (high ∷ vs)
-  after-high a16 high b [] = refl
-  after-high a16 high b (low ∷ vs) = refl
+    eight : (f : Field) (b : AddressBuffer) (n : ℕ) (bs : List Bool) → ltb n 8 ≡ false → length bs ≡ 8
+        → Told (record { phase = Taking f n (number bs); buffer = b }) (fieldPulls f b [] bs) (fieldLeft f b [])
+    eight Word b n bs h l = record { pull-is = rw (h, l) (sym (ap ours (word-in p pins wired bs l))); buffer-is = refl }
+    eight (HighByte a16) b n bs h l = record { pull-is = rw (h, l); buffer-is = refl }
+    eight (LowByte a16 high) b n bs h l = record { pull-is = rw (h, l); buffer-is = refl }
+    eight (Data a) b n bs h l = record { pull-is = rw (h, l); buffer-is = refl }
 
-  -- a whole byte, given where the clocks after it lead
-  module _ (ks : List Clock) (rest : (f : Field) (b : AddressBuffer) → FieldTold ks f b) where
-    by-word : (b : AddressBuffer) (w : DeviceWord)
-        → Told (after p pins (begun p b w) b ks) (wordPulls p m b w (bytes ks) (unfinished ks)) (wordBuffer p b w (bytes ks))
-    by-word b (ReadWord a16) = sending-told ks (readAddress p b a16) b
-    by-word b (WriteWord a16) = rest (HighByte a16) b
-    by-word b OtherWord = deaf-told b ks
+    begun-told : (f : Field) (b : AddressBuffer) (n : ℕ) (bs : List Bool) → length bs ≡ n → n ≤ 8
+        → Told (record { phase = Taking f n (number bs); buffer = b }) (fieldPulls f b [] bs) (fieldLeft f b [])
+    begun-told f b n bs l h = by (ltb n 8) refl
+      where
+        by : (y : Bool) → ltb n 8 ≡ y → Told (record { phase = Taking f n (number bs); buffer = b }) (fieldPulls f b [] bs) (fieldLeft f b [])
+        by true e = few f b n (number bs) bs e (ne-eqb (length bs) 8 (λ q. omega (arith, ltb-true n 8 e)))
+        by false e = eight f b n bs e (omega (arith, ltb-false n 8 e))
 
-    by-field : (f : Field) (b : AddressBuffer) (v : Byte)
-        → Told (after p pins (finished p pins b f (v .value)) (fieldBuffer p b f (v .value)) ks) (fieldPulls f b (v ∷ bytes ks) (unfinished ks))
-        (fieldLeft f b (v ∷ bytes ks))
-    by-field Word b v = by-word b (wordOf p pins (v .value))
-    by-field (HighByte a16) b v = rw (← after-high a16 v b (bytes ks)) (rest (LowByte a16 (v .value)) b)
-    by-field (LowByte a16 high) b v = rest (Data (joined p a16 high (v .value))) _
-    by-field (Data a) b v = rest (Data (nextAddress (p .size) a)) _
+    -- a whole byte, given where the clocks after it lead
+    module _ (ks : List Clock) (rest : (f : Field) (b : AddressBuffer) → FieldTold ks [] 0 8 f b) where
+      by-word : (b : AddressBuffer) (w : DeviceWord)
+          → Told (after p pins (begun p b w) b ks) (wordPulls p m b w (bytes ks) (unfinished ks)) (wordBuffer p b w (bytes ks))
+      by-word b (ReadWord a16) = sending-from ks [] (readAddress p b a16) b 0 8 refl refl
+      by-word b (WriteWord a16) = rest (HighByte a16) b
+      by-word b OtherWord = deaf-told b ks
 
-  field-told : (ks : List Clock) (f : Field) (b : AddressBuffer) → FieldTold ks f b
-  field-told [] f b = few f b _ _ [] refl refl
-  field-told (a₁ ∷ []) f b = few f b _ _ (unfinished (a₁ ∷ [])) refl refl
-  field-told (a₁ ∷ a₂ ∷ []) f b = few f b _ _ (unfinished (a₁ ∷ a₂ ∷ [])) refl refl
-  field-told (a₁ ∷ a₂ ∷ a₃ ∷ []) f b = few f b _ _ (unfinished (a₁ ∷ a₂ ∷ a₃ ∷ [])) refl refl
-  field-told (a₁ ∷ a₂ ∷ a₃ ∷ a₄ ∷ []) f b = few f b _ _ (unfinished (a₁ ∷ a₂ ∷ a₃ ∷ a₄ ∷ [])) refl refl
-  field-told (a₁ ∷ a₂ ∷ a₃ ∷ a₄ ∷ a₅ ∷ []) f b = few f b _ _ (unfinished (a₁ ∷ a₂ ∷ a₃ ∷ a₄ ∷ a₅ ∷ [])) refl refl
-  field-told (a₁ ∷ a₂ ∷ a₃ ∷ a₄ ∷ a₅ ∷ a₆ ∷ []) f b = few f b _ _ (unfinished (a₁ ∷ a₂ ∷ a₃ ∷ a₄ ∷ a₅ ∷ a₆ ∷ [])) refl refl
-  field-told (a₁ ∷ a₂ ∷ a₃ ∷ a₄ ∷ a₅ ∷ a₆ ∷ a₇ ∷ []) f b = few f b _ _ (unfinished (a₁ ∷ a₂ ∷ a₃ ∷ a₄ ∷ a₅ ∷ a₆ ∷ a₇ ∷ [])) refl refl
-  field-told (a₁ ∷ a₂ ∷ a₃ ∷ a₄ ∷ a₅ ∷ a₆ ∷ a₇ ∷ a₈ ∷ []) f b =
-      eight f b (unfinished (a₁ ∷ a₂ ∷ a₃ ∷ a₄ ∷ a₅ ∷ a₆ ∷ a₇ ∷ a₈ ∷ [])) refl
-  field-told (a₁ ∷ a₂ ∷ a₃ ∷ a₄ ∷ a₅ ∷ a₆ ∷ a₇ ∷ a₈ ∷ a₉ ∷ ks) f b = by-field ks (field-told ks) f b _
+      by-field : (f : Field) (b : AddressBuffer) (v : Byte) → length (v .bits) ≡ 8
+          → Told (after p pins (finished p pins b f (value v)) (fieldBuffer p b f (value v)) ks) (fieldPulls f b (v ∷ bytes ks) (unfinished ks))
+          (fieldLeft f b (v ∷ bytes ks))
+      by-field Word b v h = rw (word-in p pins wired (v .bits) h) (by-word b (wordOf p pins (value v)))
+      by-field (HighByte a16) b v h = rw (← after-high a16 v b (bytes ks) h (eights ks)) (rest (LowByte a16 (value v)) b)
+      by-field (LowByte a16 high) b v h = rest (Data (joined p a16 high (value v))) _
+      by-field (Data a) b v h = rest (Data (nextAddress (p .size) a)) _
 
-  -- a span pulls and leaves the buffer as the definitions say
-  pub span-told : (b : AddressBuffer) (ks : List Clock)
-      → Told (after p pins (Taking Word 0 0) b ks) (spanPulls p pins m b (bytes ks) (unfinished ks)) (spanBuffer p pins b (bytes ks))
-  span-told b ks = field-told ks Word b
+    field-from : (ks xs : List Clock) (f : Field) (b : AddressBuffer) (n r : ℕ) → n + r ≡ 8 → length xs ≡ n → FieldTold ks xs n r f b
+    field-from [] xs f b n r h l = begun-told f b n (map lineAt xs) (length-map xs lineAt ∙ l) (omega arith)
+    field-from (k ∷ ks) xs f b n zero h l =
+        rw (le-ltb n 8 (omega arith))
+        (by-field ks (λ g c. field-from ks [] g c 0 8 refl refl) f b (nineRises (record { front = xs; last = k }))
+        (length-map xs lineAt ∙ l ∙ omega arith))
+    field-from (k ∷ ks) xs f b n (suc r) h l =
+        rw (lt-ltb n 8 (omega arith), ← lines-snoc) (field-from ks (xs ++ (k ∷ [])) f b (n + 1) r (omega arith) (rw (length-append, l)))
+
+    -- a span pulls and leaves the buffer as the definitions say
+    pub span-told : (b : AddressBuffer) (ks : List Clock)
+        → Told (after p pins (Taking Word 0 0) b ks) (spanPulls p pins m b (bytes ks) (unfinished ks)) (spanBuffer p pins b (bytes ks))
+    span-told b ks = field-from ks [] Word b 0 8 refl refl
 
   -- ---- a span that sends does not write: with its stores the memory shows the same, also after falls earlier in it
 
-  word-same : (b : AddressBuffer) (w : DeviceWord) (ks more : List Clock)
-      → wordPulls p (stored m (byWord p w (bytes (ks ++ more)))) b w (bytes ks) (unfinished ks) ≡ wordPulls p m b w (bytes ks) (unfinished ks)
-  word-same b (ReadWord a16) ks more = refl
-  word-same b (WriteWord a16) ks more = refl
-  word-same b OtherWord ks more = refl
+  word-same : (b : AddressBuffer) (w : DeviceWord) (vs us : List Byte) (bs : List Bool)
+      → wordPulls p (stored m (byWord p w us)) b w vs bs ≡ wordPulls p m b w vs bs
+  word-same b (ReadWord a16) vs us bs = refl
+  word-same b (WriteWord a16) vs us bs = refl
+  word-same b OtherWord vs us bs = refl
+
+  bytes-same : (b : AddressBuffer) (vs us : List Byte) (bs : List Bool)
+      → spanPulls p pins (stored m (stores p pins (vs ++ us))) b vs bs ≡ spanPulls p pins m b vs bs
+  bytes-same b [] us bs = refl
+  bytes-same b (word ∷ vs) us bs = word-same b (wordIn p pins (word .bits)) vs (vs ++ us) bs
 
   pub pull-same : (b : AddressBuffer) (ks more : List Clock)
       → spanPulls p pins (stored m (stores p pins (bytes (ks ++ more)))) b (bytes ks) (unfinished ks) ≡ spanPulls p pins m b (bytes ks) (unfinished ks)
-  pull-same b [] more = refl
-  pull-same b (a₁ ∷ []) more = refl
-  pull-same b (a₁ ∷ a₂ ∷ []) more = refl
-  pull-same b (a₁ ∷ a₂ ∷ a₃ ∷ []) more = refl
-  pull-same b (a₁ ∷ a₂ ∷ a₃ ∷ a₄ ∷ []) more = refl
-  pull-same b (a₁ ∷ a₂ ∷ a₃ ∷ a₄ ∷ a₅ ∷ []) more = refl
-  pull-same b (a₁ ∷ a₂ ∷ a₃ ∷ a₄ ∷ a₅ ∷ a₆ ∷ []) more = refl
-  pull-same b (a₁ ∷ a₂ ∷ a₃ ∷ a₄ ∷ a₅ ∷ a₆ ∷ a₇ ∷ []) more = refl
-  pull-same b (a₁ ∷ a₂ ∷ a₃ ∷ a₄ ∷ a₅ ∷ a₆ ∷ a₇ ∷ a₈ ∷ []) more = refl
-  pull-same b (a₁ ∷ a₂ ∷ a₃ ∷ a₄ ∷ a₅ ∷ a₆ ∷ a₇ ∷ a₈ ∷ a₉ ∷ ks) more =
-      word-same b (wordOf p pins (number (unfinished (a₁ ∷ a₂ ∷ a₃ ∷ a₄ ∷ a₅ ∷ a₆ ∷ a₇ ∷ a₈ ∷ [])))) ks more
+  pull-same b ks more =
+      let l = longer 8 ks more in
+      rw (l .1, map-append) (bytes-same b (bytes ks) (map nineRises (l .0)) (unfinished ks))

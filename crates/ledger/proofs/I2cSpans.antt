@@ -1,82 +1,115 @@
--- The ledger's spans are those from a START to the next START, STOP or power off: such a span has the clocks of the rises in
--- between, all of them and in order. Assumes nothing.
+-- In every history a span runs from a START to the next START, STOP or power off, and has exactly the rises of SCL between, each with
+-- the line and WP at its sample; START, STOP, rises and falls are said by SCL, SDA and the answers. By induction on the steps.
+-- Assumes nothing.
 use Prim.Native.Nat.{ℕ}
-use mathlib.Core.Path.{_≡_, refl}
-use mathlib.Core.Bool.{Bool}
-use mathlib.Core.List.{List, [], _∷_, _++_, append-nil, append-assoc}
+use mathlib.Core.Path.{_≡_, refl, ap, _∙_}
+use mathlib.Core.Bool.{Bool, true, false, cond, not, _&&_}
+use mathlib.Core.List.{List, [], _∷_, _++_, append-nil}
 use Rattle.trace.specs.declared.event.Event.the-variants.{PowerOff}
-use Rattle.transfer.specs.declared.edge.Edge.{Edge}
-use Rattle.transfer.specs.declared.edge.Edge.the-variants.{Start, Stop, Rise, Fall, Quiet}
-use Rattle.ledger.specs.I2cLedger.{Clock, Item, idle, span, noted, Wires, itemsAfter}
+use Rattle.transfer.specs.declared.levels.Levels.{Levels}
+use Rattle.transfer.specs.Edge.{edgeOn}
+use Rattle.transfer.specs.Levels.{levelsOf}
+use Rattle.transfer.proofs.LevelLaws.{levels-back}
+use Rattle.ledger.specs.History.{Entry}
+use Rattle.ledger.specs.Steps.{Step, sample, expected, entryOf, entered}
+use Rattle.ledger.specs.I2cLedger.{Clock, Item, idle, span, noted, Wires, wiresAt, edgeBetween, lastWires, items}
+use Rattle.ledger.specs.I2cAnswers.{LastFall, fallOn, lastFall}
+use Rattle.ledger.specs.I2cAnswers as Answers
+use Rattle.ledger.specs.Spans.{sampleByte, wiresAfter, Start, Stop, Neither, AllNeither, clocksAfter, lastFallAfter}
 
--- an edge, and WP at its sample
-pub record Seen : Type 0 where
-  pub edge : Edge
-  pub wp : Bool
+-- a sample has the levels that its byte is made of
+levels-of : (l : Levels) → levelsOf (sampleByte l) ≡ l
+levels-of l = levels-back (l .scl) (l .sda) (l .wp)
 
--- no START and no STOP
-abbrev pub Between : Edge → Type 0
-Between Start = ⊥
-Between Stop = ⊥
-Between (Rise line) = Unit {0}
-Between Fall = Unit {0}
-Between Quiet = Unit {0}
+-- one sample more
+one-noted : (h : List Entry) (l : Levels) (a : ℕ)
+    → items (entryOf sampleByte (sample l a) ∷ h) ≡ noted (edgeBetween (lastWires h) (wiresAt l a)) (l .wp) (items h)
+one-noted h l a = ap (λ (k : Levels). noted (edgeBetween (lastWires h) (wiresAt k a)) (k .wp) (items h)) (levels-of l)
 
-abbrev pub AllBetween : List Seen → Type 0
-AllBetween [] = Unit {0}
-AllBetween (x ∷ xs) = Between (x .edge) × AllBetween xs
+one-fall : (h : List Entry) (l : Levels) (a : ℕ)
+    → lastFall (entryOf sampleByte (sample l a) ∷ h) ≡ fallOn (edgeBetween (lastWires h) (wiresAt l a)) (items h) (lastFall h)
+one-fall h l a = ap (λ (k : Levels). fallOn (edgeBetween (lastWires h) (wiresAt k a)) (items h) (lastFall h)) (levels-of l)
 
--- the clocks of the rises, the first first
-abbrev pub clockOf : Edge → Bool → List Clock
-clockOf Start wp = []
-clockOf Stop wp = []
-clockOf (Rise line) wp = record { line = line; wp = wp } ∷ []
-clockOf Fall wp = []
-clockOf Quiet wp = []
+-- between two samples that are no START and no STOP: SCL before and now, the line before and now, WP now
+module _ (is : List Item) (ks : List Clock) where
+  neither-noted : (a b x y wp : Bool) → (a ≡ true → b ≡ true → y ≡ x)
+      → noted (edgeOn a b x y) wp (span ks ∷ is) ≡ span (ks ++ cond (not a && b) (record { line = y; wp = wp } ∷ []) []) ∷ is
+  neither-noted true true true y wp n = rw (n refl refl, append-nil)
+  neither-noted true true false y wp n = rw (n refl refl, append-nil)
+  neither-noted true false x y wp n = rw append-nil
+  neither-noted false true x y wp n = refl
+  neither-noted false false x y wp n = rw append-nil
 
-abbrev pub clocks : List Seen → List Clock
-clocks [] = []
-clocks (x ∷ xs) = clockOf (x .edge) (x .wp) ++ clocks xs
+  neither-fall : (f : LastFall) (a b x y : Bool) → (a ≡ true → b ≡ true → y ≡ x)
+      → fallOn (edgeOn a b x y) (span ks ∷ is) f ≡ cond (a && not b) (Answers.after ks) f
+  neither-fall f true true true y n = rw (n refl refl)
+  neither-fall f true true false y n = rw (n refl refl)
+  neither-fall f true false x y n = refl
+  neither-fall f false b x y n = by b
+    where
+      by : (c : Bool) → fallOn (edgeOn false c x y) (span ks ∷ is) f ≡ f
+      by true = refl
+      by false = refl
 
--- the items after edges, the first noted first
-abbrev pub allNoted : List Seen → List Item → List Item
-allNoted [] is = is
-allNoted (x ∷ xs) is = allNoted xs (noted (x .edge) (x .wp) is)
+-- START and STOP
+start-noted : (v w : Wires) (wp : Bool) (is : List Item) → Start v w → noted (edgeBetween v w) wp is ≡ span [] ∷ is
+start-noted v w wp is s = rw (s .scl-before, s .scl-now, s .line-before, s .line-now)
 
--- what ends a span: a START or a STOP, with WP at its sample, or a power off, with its answer and the wires before it
-pub data End : Type 0 where
-  start : Bool → End
-  stop : Bool → End
-  off : ℕ → Wires → End
+stop-noted : (v w : Wires) (wp : Bool) (is : List Item) → Stop v w → noted (edgeBetween v w) wp is ≡ idle ∷ is
+stop-noted v w wp is s = rw (s .scl-before, s .scl-now, s .line-before, s .line-now)
 
-abbrev pub ended : End → List Item → List Item
-ended (start wp) is = noted Start wp is
-ended (stop wp) is = noted Stop wp is
-ended (off answer w) is = itemsAfter PowerOff answer w is
+start-fall : (v w : Wires) (is : List Item) (f : LastFall) → Start v w → fallOn (edgeBetween v w) is f ≡ Answers.none
+start-fall v w is f s = rw (s .scl-before, s .scl-now, s .line-before, s .line-now)
 
--- what begins with it
-abbrev pub opened : End → Item
-opened (start wp) = span []
-opened (stop wp) = idle
-opened (off answer w) = idle
+module _ (h : List Entry) (first : Levels) (answer : ℕ) where
+  -- the history in which a sample with the levels first is followed by the steps ss
+  abbrev after : List (Step Levels) → List Entry
+  after ss = entered sampleByte ss (entryOf sampleByte (sample first answer) ∷ h)
 
-one-noted : (e : Edge) (wp : Bool) (ks : List Clock) (is : List Item) → Between e → noted e wp (span ks ∷ is) ≡ span (ks ++ clockOf e wp) ∷ is
-one-noted Start wp ks is h = absurd h
-one-noted Stop wp ks is h = absurd h
-one-noted (Rise line) wp ks is h = refl
-one-noted Fall wp ks is h = rw append-nil
-one-noted Quiet wp ks is h = rw append-nil
+  abbrev begin : Wires
+  begin = wiresAt first answer
 
-all-noted : (xs : List Seen) (ks : List Clock) (is : List Item) → AllBetween xs → allNoted xs (span ks ∷ is) ≡ span (ks ++ clocks xs) ∷ is
-all-noted [] ks is h = rw append-nil
-all-noted (x ∷ xs) ks is (h, hs) =
-    rw (one-noted (x .edge) (x .wp) ks is h, ← append-assoc) (all-noted xs (ks ++ clockOf (x .edge) (x .wp)) is hs)
+  last-wires : (ss : List (Step Levels)) → lastWires (after ss) ≡ wiresAfter begin ss
+  last-wires [] = ap (λ (l : Levels). wiresAt l answer) (levels-of first)
+  last-wires (sample l a ∷ ss) = ap (λ (k : Levels). wiresAt k a) (levels-of l)
+  last-wires (expected v a ∷ ss) = last-wires ss
 
-end-noted : (x : End) (is : List Item) → ended x is ≡ opened x ∷ is
-end-noted (start wp) is = refl
-end-noted (stop wp) is = refl
-end-noted (off answer w) is = refl
+  module _ (started : Start (lastWires h) begin) where
+    -- a START between the last sample of h and first, and neither START nor STOP since: one span, open, with the rises since
+    pub span-open : (ss : List (Step Levels)) → AllNeither begin ss → items (after ss) ≡ span (clocksAfter begin ss) ∷ items h
+    span-open [] ns = one-noted h first answer ∙ start-noted (lastWires h) begin (first .wp) (items h) started
+    span-open (sample l a ∷ ss) ns =
+        let q = wiresAfter begin ss in
+        one-noted (after ss) l a
+        ∙ rw (last-wires ss, span-open ss (ns .1))
+        (neither-noted (items h) (clocksAfter begin ss) (q .scl) (l .scl) (q .line) (wiresAt l a .line) (l .wp) (ns .0))
+    span-open (expected v a ∷ ss) ns = span-open ss ns
 
-pub span-of : (wp : Bool) (xs : List Seen) (x : End) (is : List Item) → AllBetween xs
-    → ended x (allNoted xs (noted Start wp is)) ≡ opened x ∷ span (clocks xs) ∷ is
-span-of wp xs x is h = rw (all-noted xs [] is h) (end-noted x (span (clocks xs) ∷ is))
+    module _ (ss : List (Step Levels)) (ns : AllNeither begin ss) where
+      -- the next START begins another span
+      pub span-start : (last : Levels) (a : ℕ) → Start (wiresAfter begin ss) (wiresAt last a)
+          → items (entryOf sampleByte (sample last a) ∷ after ss) ≡ span [] ∷ span (clocksAfter begin ss) ∷ items h
+      span-start last a s =
+          one-noted (after ss) last a
+          ∙ rw (last-wires ss, span-open ss ns) (start-noted (wiresAfter begin ss) (wiresAt last a) (last .wp) (span (clocksAfter begin ss) ∷ items h) s)
+
+      -- a STOP ends it
+      pub span-stop : (last : Levels) (a : ℕ) → Stop (wiresAfter begin ss) (wiresAt last a)
+          → items (entryOf sampleByte (sample last a) ∷ after ss) ≡ idle ∷ span (clocksAfter begin ss) ∷ items h
+      span-stop last a s =
+          one-noted (after ss) last a
+          ∙ rw (last-wires ss, span-open ss ns) (stop-noted (wiresAfter begin ss) (wiresAt last a) (last .wp) (span (clocksAfter begin ss) ∷ items h) s)
+
+      -- and so does power off
+      pub span-cut : (a : ℕ) → items (record { event = PowerOff; answer = a } ∷ after ss) ≡ idle ∷ span (clocksAfter begin ss) ∷ items h
+      span-cut a = rw (span-open ss ns)
+
+    -- the last fall of SCL in it
+    pub fall-of : (ss : List (Step Levels)) → AllNeither begin ss → lastFall (after ss) ≡ lastFallAfter begin ss
+    fall-of [] ns = one-fall h first answer ∙ start-fall (lastWires h) begin (items h) (lastFall h) started
+    fall-of (sample l a ∷ ss) ns =
+        let q = wiresAfter begin ss in
+        one-fall (after ss) l a
+        ∙ rw (last-wires ss, span-open ss (ns .1), fall-of ss (ns .1))
+        (neither-fall (items h) (clocksAfter begin ss) (lastFallAfter begin ss) (q .scl) (l .scl) (q .line) (wiresAt l a .line) (ns .0))
+    fall-of (expected v a ∷ ss) ns = fall-of ss ns

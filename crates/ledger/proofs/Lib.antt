@@ -1,9 +1,12 @@
 pub mod Folds
 pub mod StoreLaws
+pub mod GroupLaws
+pub mod WordLaws
 pub mod SpiReads
 pub mod SpiFits
 pub mod SpiSelections
 pub mod I2cReads
+pub mod Proper
 pub mod I2cFits
 pub mod I2cSpans
 pub mod I2cShows

@@ -4,7 +4,7 @@
 use Prim.Native.Nat.{ℕ, zero, suc, _+_, _%_, _<_}
 use mathlib.Core.Path.{_≡_, refl, sym, ap, _∙_}
 use mathlib.Core.Bool.{Bool, true, false, cond, _&&_}
-use mathlib.Core.List.{List, [], _∷_, _++_}
+use mathlib.Core.List.{List, [], _∷_, _++_, map}
 use native.Mathlib.Omega.{arith}
 use lib.Dec.{ltb}
 use borrow.Author.Tests.{lt-ltb, le-ltb}
@@ -28,10 +28,12 @@ use Rattle.spi_status.specs.Deselect.{fieldStatus, statusAfter, sleeps}
 use Rattle.selection.specs.Opcode.{commandOf}
 use Rattle.selection.specs.Phase.{width, begun, filled, nextSource, afterRise}
 use Rattle.spi.specs.Store.{permitted, fieldWrite, riseWrite}
-use Rattle.ledger.specs.Bits.{numberAfter, number, Field as Bits, short, whole, put, field, bytes}
+use Rattle.ledger.specs.Bits.{numberAfter, number, Field as Bits, short, whole, put, field, eightBits, bytes}
+use Rattle.ledger.specs.Groups.{groupsFrom}
 use Rattle.ledger.specs.Stores.{Store}
-use Rattle.ledger.specs.SpiLedger.{Reading, command, opcodeRead, reading, afterAddress, addressIn, isSleep, unlessAny, enableAfter, SavedBits, bitsIn, register, bitsAfter, placed, stores}
+use Rattle.ledger.specs.SpiLedger.{Reading, command, opcodeRead, reading, afterAddress, addressIn, isSleep, unlessAny, enableAfter, SavedBits, bitsIn, register, statusWrite, bitsAfter, placed, stores}
 use Rattle.ledger.proofs.Folds.{after, given, given-snoc}
+use Rattle.ledger.proofs.GroupLaws.{number-snoc, firstBytes, first-byte}
 use Rattle.ledger.proofs.StoreLaws.{storesOf}
 
 -- the phase after counted rises with these bits, and what they store
@@ -154,39 +156,34 @@ module _ (p : Part) (b : SavedBits) (e wp : Bool) where
   abbrev saysData : ℕ → Bool → List ℕ → Effect
   saysData a w vs = record { status = register b (unlessAny vs (cond w false e)); sleep = false; stores = cond e (placed p b a vs) [] }
 
-  no-byte : (a : ℕ) (w : Bool) → does (Taking (Data a w) 0 0) [] ≡ saysData a w []
-  no-byte a true = rw no-stores
-  no-byte a false = rw no-stores
+  -- no bit more
+  no-bit : (a n v : ℕ) (w : Bool) → does (Taking (Data a w) n v) [] ≡ saysData a w []
+  no-bit a n v true = rw no-stores
+  no-bit a n v false = rw no-stores
+
+  -- with the bits xs of a byte in, n of them, and r more before its last
+  data-from : (bs xs : List Bool) (a : ℕ) (w : Bool) (n r : ℕ) → n + r ≡ 7
+      → does (Taking (Data a w) n (number xs)) bs ≡ saysData a w (map eightBits (groupsFrom 7 r xs bs .whole))
+  unfolding protectedStart
+  data-from [] xs a w n r h = no-bit a n (number xs) w
+  data-from (x ∷ bs) xs a w n zero h =
+      rw (le-ltb n 7 (omega arith), le-ltb (n + 1) 8 (omega arith), number-snoc)
+      (ap (following (storesOf (permitted p (register b e) a (shifted (number xs) x)))) (data-from bs [] (nextAddress (p .size) a) true 0 7 refl)
+      ∙ rw (unless-off, one-byte))
+  data-from (x ∷ bs) xs a w n (suc r) h =
+      rw (lt-ltb n 7 (omega arith), lt-ltb (n + 1) 8 (omega arith), ← number-snoc) (data-from bs (xs ++ (x ∷ [])) a w (n + 1) r (omega arith))
 
   data-bytes : (a : ℕ) (w : Bool) (bs : List Bool) → does (Taking (Data a w) 0 0) bs ≡ saysData a w (bytes bs)
-  unfolding protectedStart
-  data-bytes a w [] = no-byte a w
-  data-bytes a w (x₁ ∷ []) = no-byte a w
-  data-bytes a w (x₁ ∷ x₂ ∷ []) = no-byte a w
-  data-bytes a w (x₁ ∷ x₂ ∷ x₃ ∷ []) = no-byte a w
-  data-bytes a w (x₁ ∷ x₂ ∷ x₃ ∷ x₄ ∷ []) = no-byte a w
-  data-bytes a w (x₁ ∷ x₂ ∷ x₃ ∷ x₄ ∷ x₅ ∷ []) = no-byte a w
-  data-bytes a w (x₁ ∷ x₂ ∷ x₃ ∷ x₄ ∷ x₅ ∷ x₆ ∷ []) = no-byte a w
-  data-bytes a w (x₁ ∷ x₂ ∷ x₃ ∷ x₄ ∷ x₅ ∷ x₆ ∷ x₇ ∷ []) = no-byte a w
-  data-bytes a w (x₁ ∷ x₂ ∷ x₃ ∷ x₄ ∷ x₅ ∷ x₆ ∷ x₇ ∷ x₈ ∷ more) =
-      let v : ℕ = number (x₁ ∷ x₂ ∷ x₃ ∷ x₄ ∷ x₅ ∷ x₆ ∷ x₇ ∷ x₈ ∷ []) in
-      ap (following (storesOf (permitted p (register b e) a v))) (data-bytes (nextAddress (p .size) a) true more)
-      ∙ rw (unless-off, one-byte)
+  data-bytes a w bs = data-from bs [] a w 0 7 refl
 
   -- ---- the data byte of WRSR
 
   status-byte : (bs : List Bool) → does (Taking StatusByte 0 0) bs ≡ says (command WRSR bs)
-  status-byte [] = rw no-stores
-  status-byte (x₁ ∷ []) = rw no-stores
-  status-byte (x₁ ∷ x₂ ∷ []) = rw no-stores
-  status-byte (x₁ ∷ x₂ ∷ x₃ ∷ []) = rw no-stores
-  status-byte (x₁ ∷ x₂ ∷ x₃ ∷ x₄ ∷ []) = rw no-stores
-  status-byte (x₁ ∷ x₂ ∷ x₃ ∷ x₄ ∷ x₅ ∷ []) = rw no-stores
-  status-byte (x₁ ∷ x₂ ∷ x₃ ∷ x₄ ∷ x₅ ∷ x₆ ∷ []) = rw no-stores
-  status-byte (x₁ ∷ x₂ ∷ x₃ ∷ x₄ ∷ x₅ ∷ x₆ ∷ x₇ ∷ []) = rw no-stores
-  status-byte (x₁ ∷ x₂ ∷ x₃ ∷ x₄ ∷ x₅ ∷ x₆ ∷ x₇ ∷ x₈ ∷ more) =
-      let v : ℕ = number (x₁ ∷ x₂ ∷ x₃ ∷ x₄ ∷ x₅ ∷ x₆ ∷ x₇ ∷ x₈ ∷ []) in
-      waiting (WriteStatus v) more ∙ rw (no-stores, either-bits _ (bitsIn v) b)
+  status-byte bs = from-start StatusByte (λ n v x. refl) (omega arith) bs ∙ rw (first-byte bs) (by (field 8 bs))
+    where
+      by : (y : Bits) → taken StatusByte (λ n v x. refl) 0 y ≡ record { status = register (statusWrite (firstBytes [] y) e wp b) (unlessAny (firstBytes [] y) e); sleep = false; stores = cond e [] [] }
+      by (short xs) = rw no-stores
+      by (whole xs rest) = waiting (WriteStatus (number xs)) rest ∙ rw (no-stores, either-bits _ (bitsIn (number xs)) b)
 
   -- ---- a whole opcode, and what follows it
 

@@ -1,61 +1,100 @@
--- The ledger's selections run from CS# falling to CS# rising, and hold exactly the bits of the counted rises between: noting
--- the edges of any samples one after the other makes them so. Assumes nothing.
+-- In every history a selection runs from CS# falling to CS# rising or to power off, and holds exactly the bits of the counted rises
+-- between, which are said by the levels of the pins; so is the last counted fall. By induction on the steps. Assumes nothing.
+use Prim.Native.Nat.{ℕ}
 use mathlib.Core.Path.{_≡_, refl, ap, _∙_}
 use mathlib.Core.Bool.{Bool, true, false, cond, not, _&&_}
-use mathlib.Core.List.{List, [], _∷_, _++_, append-assoc, append-nil}
+use mathlib.Core.List.{List, [], _∷_, _++_, append-nil}
+use Rattle.parts.specs.declared.part.Part.{Part}
+use Rattle.trace.specs.declared.event.Event.the-variants.{PowerOff}
 use Rattle.selection.specs.declared.levels.Levels.{Levels}
 use Rattle.selection.specs.Edge.{clockEdge, edgeOf}
-use Rattle.ledger.specs.SpiLedger.{unended, ended, Item, selection, noted}
+use Rattle.selection.specs.Levels.{levelsOf}
+use Rattle.selection.proofs.LevelLaws.{levels-back}
+use Rattle.ledger.specs.History.{Entry}
+use Rattle.ledger.specs.Steps.{Step, sample, expected, entryOf, entered}
+use Rattle.ledger.specs.SpiLedger.{unended, ended, Item, powerOff, selection, noted, lastSample, items, asleep}
+use Rattle.ledger.specs.SpiAnswers.{LastFall, noFall, fallAfter, fallOn, lastFall}
+use Rattle.ledger.specs.Selections.{sampleByte, AllLow, levelsAfter, bitsAfter, lastFallAfter}
 
--- the items after samples that follow one with the levels a
-abbrev pub notedAll : Levels → List Levels → List Item → List Item
-notedAll a [] is = is
-notedAll a (b ∷ ls) is = notedAll b ls (noted (edgeOf a b) (b .wp) is)
+-- a sample has the levels that its byte is made of
+levels-of : (l : Levels) → levelsOf (sampleByte l) ≡ l
+levels-of l = levels-back (l .cs) (l .sck) (l .si) (l .wp) (l .hold)
 
--- the bit of a counted rise between two samples with CS# 0: HOLD# is 1 in both, SCK 0 and then 1
-abbrev pub risen : Levels → Levels → List Bool
-risen a b = cond (a .hold && (b .hold && (not (a .sck) && b .sck))) (b .si ∷ []) []
+-- one sample more
+one-noted : (h : List Entry) (l : Levels) (a : ℕ) → items (entryOf sampleByte (sample l a) ∷ h) ≡ noted (edgeOf (lastSample h) l) (l .wp) (items h)
+one-noted h l a = ap (λ (k : Levels). noted (edgeOf (lastSample h) k) (k .wp) (items h)) (levels-of l)
 
--- the bits of all of them
-abbrev pub rises : Levels → List Levels → List Bool
-rises a [] = []
-rises a (b ∷ ls) = risen a b ++ rises b ls
+one-fall : (p : Part) (h : List Entry) (l : Levels) (a : ℕ)
+    → lastFall p (entryOf sampleByte (sample l a) ∷ h) ≡ fallOn (edgeOf (lastSample h) l) p (items h) (lastFall p h)
+one-fall p h l a = ap (λ (k : Levels). fallOn (edgeOf (lastSample h) k) p (items h) (lastFall p h)) (levels-of l)
 
--- CS# is 0 throughout
-abbrev pub Low : List Levels → Type 0
-Low [] = Unit {0}
-Low (l ∷ ls) = (l .cs ≡ false) × Low ls
+-- between two samples with CS# 0: HOLD# before and now, SCK before and now, SI and WP# now
+clock-noted : (is : List Item) (bs : List Bool) (h h′ k k′ x wp : Bool)
+    → noted (clockEdge h h′ k k′ x) wp (selection bs unended ∷ is)
+    ≡ selection (bs ++ cond (h && (h′ && (not k && k′))) (x ∷ []) []) unended ∷ is
+clock-noted is bs false h′ k k′ x wp = rw append-nil
+clock-noted is bs true false k k′ x wp = rw append-nil
+clock-noted is bs true true false false x wp = rw append-nil
+clock-noted is bs true true false true x wp = refl
+clock-noted is bs true true true false x wp = rw append-nil
+clock-noted is bs true true true true x wp = rw append-nil
 
-module _ (is : List Item) where
-  -- between two samples with CS# 0: HOLD# before and now, SCK before and now, SI and WP# now
-  noted-clock : (h h′ k k′ x wp : Bool) (bs : List Bool)
-      → noted (clockEdge h h′ k k′ x) wp (selection bs unended ∷ is)
-      ≡ selection (bs ++ cond (h && (h′ && (not k && k′))) (x ∷ []) []) unended ∷ is
-  noted-clock false h′ k k′ x wp bs = rw append-nil
-  noted-clock true false k k′ x wp bs = rw append-nil
-  noted-clock true true false false x wp bs = rw append-nil
-  noted-clock true true false true x wp bs = refl
-  noted-clock true true true false x wp bs = rw append-nil
-  noted-clock true true true true x wp bs = rw append-nil
+clock-fall : (p : Part) (is : List Item) (bs : List Bool) (f : LastFall) (h h′ k k′ x : Bool) → asleep p is ≡ false
+    → fallOn (clockEdge h h′ k k′ x) p (selection bs unended ∷ is) f ≡ cond (h && (h′ && (k && not k′))) (fallAfter bs) f
+clock-fall p is bs f false h′ k k′ x a = refl
+clock-fall p is bs f true false k k′ x a = refl
+clock-fall p is bs f true true false k′ x a = by k′
+  where
+    by : (y : Bool) → fallOn (clockEdge true true false y x) p (selection bs unended ∷ is) f ≡ f
+    by true = refl
+    by false = refl
+clock-fall p is bs f true true true true x a = refl
+clock-fall p is bs f true true true false x a = rw a
 
-  noted-low : (a b : Levels) (bs : List Bool) → a .cs ≡ false → b .cs ≡ false
-      → noted (edgeOf a b) (b .wp) (selection bs unended ∷ is) ≡ selection (bs ++ risen a b) unended ∷ is
-  noted-low a b bs low low′ = rw (low, low′) (noted-clock (a .hold) (b .hold) (a .sck) (b .sck) (b .si) (b .wp) bs)
+module _ (h : List Entry) (first : Levels) (answer : ℕ) where
+  -- the history in which a sample with the levels first is followed by the steps ss
+  abbrev after : List (Step Levels) → List Entry
+  after ss = entered sampleByte ss (entryOf sampleByte (sample first answer) ∷ h)
 
-  noted-fall : (k l : Levels) → k .cs ≡ true → l .cs ≡ false → noted (edgeOf k l) (l .wp) is ≡ selection [] unended ∷ is
-  noted-fall k l up low = rw (up, low)
+  last-levels : (ss : List (Step Levels)) → lastSample (after ss) ≡ levelsAfter first ss
+  last-levels [] = levels-of first
+  last-levels (sample l a ∷ ss) = levels-of l
+  last-levels (expected v a ∷ ss) = last-levels ss
 
-  -- a selection with the bits bs so far, until CS# rises at a sample with the levels e
-  until-end : (a e : Levels) (ls : List Levels) (bs : List Bool) → a .cs ≡ false → Low ls → e .cs ≡ true
-      → notedAll a (ls ++ (e ∷ [])) (selection bs unended ∷ is) ≡ selection (bs ++ rises a ls) (ended (e .wp)) ∷ is
-  until-end a e [] bs low lows high = rw (low, high, append-nil)
-  until-end a e (b ∷ ls) bs low lows high =
-      ap (notedAll b (ls ++ (e ∷ []))) (noted-low a b bs low (lows .0))
-      ∙ until-end b e ls (bs ++ risen a b) (lows .0) (lows .1) high
-      ∙ rw append-assoc
+  low-after : (ss : List (Step Levels)) → first .cs ≡ false → AllLow ss → levelsAfter first ss .cs ≡ false
+  low-after [] low lows = low
+  low-after (sample l a ∷ ss) low lows = lows .0
+  low-after (expected v a ∷ ss) low lows = low-after ss low lows
 
-  -- CS# falls between k and l, is 0 in all of ls, and rises between the last of them and e
-  pub selection-of : (k l e : Levels) (ls : List Levels) → k .cs ≡ true → l .cs ≡ false → Low ls → e .cs ≡ true
-      → notedAll k (l ∷ (ls ++ (e ∷ []))) is ≡ selection (rises l ls) (ended (e .wp)) ∷ is
-  selection-of k l e ls up low lows high =
-      ap (notedAll l (ls ++ (e ∷ []))) (noted-fall k l up low) ∙ until-end l e ls [] low lows high
+  module _ (up : lastSample h .cs ≡ true) (low : first .cs ≡ false) where
+    -- CS# has fallen between the last sample of h and first, and is 0 at all samples since: one selection, open, with the bits of the
+    -- counted rises
+    pub selection-open : (ss : List (Step Levels)) → AllLow ss → items (after ss) ≡ selection (bitsAfter first ss) unended ∷ items h
+    selection-open [] lows = one-noted h first answer ∙ rw (up, low)
+    selection-open (sample l a ∷ ss) lows =
+        let q = levelsAfter first ss in
+        one-noted (after ss) l a
+        ∙ rw (last-levels ss, low-after ss low (lows .1), lows .0, selection-open ss (lows .1))
+        (clock-noted (items h) (bitsAfter first ss) (q .hold) (l .hold) (q .sck) (l .sck) (l .si) (l .wp))
+    selection-open (expected v a ∷ ss) lows = selection-open ss lows
+
+    module _ (ss : List (Step Levels)) (lows : AllLow ss) where
+      -- and then it rises at a sample with the levels last: the selection has ended, with WP# at that sample
+      pub selection-of : (last : Levels) (a : ℕ) → last .cs ≡ true
+          → items (entryOf sampleByte (sample last a) ∷ after ss) ≡ selection (bitsAfter first ss) (ended (last .wp)) ∷ items h
+      selection-of last a high = one-noted (after ss) last a ∙ rw (last-levels ss, low-after ss low lows, high, selection-open ss lows)
+
+      -- or power is cut: the selection stays without an end
+      pub selection-cut : (a : ℕ)
+          → items (record { event = PowerOff; answer = a } ∷ after ss) ≡ powerOff ∷ selection (bitsAfter first ss) unended ∷ items h
+      selection-cut a = rw (selection-open ss lows)
+
+    -- the last counted fall, in a selection that is not ignored
+    pub fall-of : (p : Part) → asleep p (items h) ≡ false → (ss : List (Step Levels)) → AllLow ss → lastFall p (after ss) ≡ lastFallAfter first ss
+    fall-of p awake [] lows = one-fall p h first answer ∙ rw (up, low)
+    fall-of p awake (sample l a ∷ ss) lows =
+        let q = levelsAfter first ss in
+        one-fall p (after ss) l a
+        ∙ rw (last-levels ss, low-after ss low (lows .1), lows .0, selection-open ss (lows .1), fall-of p awake ss (lows .1))
+        (clock-fall p (items h) (bitsAfter first ss) (lastFallAfter first ss) (q .hold) (l .hold) (q .sck) (l .sck) (l .si) awake)
+    fall-of p awake (expected v a ∷ ss) lows = fall-of p awake ss lows

@@ -1,8 +1,9 @@
 -- Numbers and bytes in a list of bits, most significant first.
 use Prim.Native.Nat.{ℕ, zero, suc}
 use mathlib.Core.Bool.{Bool}
-use mathlib.Core.List.{List, [], _∷_}
+use mathlib.Core.List.{List, [], _∷_, _++_, map}
 use Rattle.serial.specs.Bits.{shifted}
+use Rattle.ledger.specs.Groups.{Group, groups}
 
 -- the number that bits make, after the number v
 abbrev pub numberAfter : ℕ → List Bool → ℕ
@@ -26,14 +27,9 @@ field zero bs = whole [] bs
 field (suc n) [] = short []
 field (suc n) (b ∷ bs) = put b (field n bs)
 
--- the whole bytes of a list of bits
+-- the whole bytes of a list of bits, seven bits and one more each
+abbrev pub eightBits : Group Bool → ℕ
+eightBits g = number (g .front ++ (g .last ∷ []))
+
 abbrev pub bytes : List Bool → List ℕ
-bytes [] = []
-bytes (a ∷ []) = []
-bytes (a ∷ b ∷ []) = []
-bytes (a ∷ b ∷ c ∷ []) = []
-bytes (a ∷ b ∷ c ∷ d ∷ []) = []
-bytes (a ∷ b ∷ c ∷ d ∷ e ∷ []) = []
-bytes (a ∷ b ∷ c ∷ d ∷ e ∷ f ∷ []) = []
-bytes (a ∷ b ∷ c ∷ d ∷ e ∷ f ∷ g ∷ []) = []
-bytes (a ∷ b ∷ c ∷ d ∷ e ∷ f ∷ g ∷ h ∷ more) = number (a ∷ b ∷ c ∷ d ∷ e ∷ f ∷ g ∷ h ∷ []) ∷ bytes more
+bytes bs = map eightBits (groups 7 bs .whole)

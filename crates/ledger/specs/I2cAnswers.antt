@@ -15,28 +15,13 @@ use Rattle.transfer.specs.declared.edge.Edge.{Edge}
 use Rattle.transfer.specs.declared.edge.Edge.the-variants.{Start, Stop, Rise, Fall, Quiet}
 use Rattle.transfer.specs.declared.word.DeviceWord.{DeviceWord}
 use Rattle.transfer.specs.declared.word.DeviceWord.the-variants.{ReadWord, WriteWord, OtherWord}
-use Rattle.transfer.specs.Buffer.{joined, readAddress}
+use Rattle.transfer.specs.Buffer.{readAddress}
 use Rattle.transfer.specs.Levels.{levelsOf}
-use Rattle.transfer.specs.Word.{wordOf}
-use Rattle.ledger.specs.Bits.{number}
+use Rattle.i2c.specs.Pull.{ours}
+use Rattle.ledger.specs.Word.{wordIn, addressAfter}
 use Rattle.ledger.specs.Stores.{stored}
 use Rattle.ledger.specs.History.{Entry}
-use Rattle.ledger.specs.I2cLedger.{Clock, Byte, bytes, Item, idle, span, Wires, wiresAt, edgeBetween, lastWires, items, writes}
-
--- ---- the byte begun
-
--- the lines at the rises after the last whole byte, at most eight
-abbrev pub unfinished : List Clock → List Bool
-unfinished [] = []
-unfinished (a ∷ []) = a .line ∷ []
-unfinished (a ∷ b ∷ []) = a .line ∷ b .line ∷ []
-unfinished (a ∷ b ∷ c ∷ []) = a .line ∷ b .line ∷ c .line ∷ []
-unfinished (a ∷ b ∷ c ∷ d ∷ []) = a .line ∷ b .line ∷ c .line ∷ d .line ∷ []
-unfinished (a ∷ b ∷ c ∷ d ∷ e ∷ []) = a .line ∷ b .line ∷ c .line ∷ d .line ∷ e .line ∷ []
-unfinished (a ∷ b ∷ c ∷ d ∷ e ∷ f ∷ []) = a .line ∷ b .line ∷ c .line ∷ d .line ∷ e .line ∷ f .line ∷ []
-unfinished (a ∷ b ∷ c ∷ d ∷ e ∷ f ∷ g ∷ []) = a .line ∷ b .line ∷ c .line ∷ d .line ∷ e .line ∷ f .line ∷ g .line ∷ []
-unfinished (a ∷ b ∷ c ∷ d ∷ e ∷ f ∷ g ∷ h ∷ []) = a .line ∷ b .line ∷ c .line ∷ d .line ∷ e .line ∷ f .line ∷ g .line ∷ h .line ∷ []
-unfinished (a ∷ b ∷ c ∷ d ∷ e ∷ f ∷ g ∷ h ∷ ninth ∷ more) = unfinished more
+use Rattle.ledger.specs.I2cLedger.{Clock, Byte, bytes, unfinished, Item, idle, span, Wires, wiresAt, edgeBetween, lastWires, items, writes}
 
 -- ---- the address buffer, over the whole bytes of a span
 
@@ -57,7 +42,7 @@ abbrev pub writtenBuffer : Part → AddressBuffer → Bool → List Byte → Add
 writtenBuffer p b a16 [] = b
 writtenBuffer p b a16 (high ∷ []) = b
 writtenBuffer p b a16 (high ∷ low ∷ vs) =
-    takenBuffer p (unusedAt (joined p a16 (high .value) (low .value))) (joined p a16 (high .value) (low .value)) vs
+    takenBuffer p (unusedAt (addressAfter p a16 (high .bits) (low .bits))) (addressAfter p a16 (high .bits) (low .bits)) vs
 
 -- bytes that go out from address a on: each one makes it "its address, used"; a low at the ninth rise asks for the next byte, high
 -- ends the transfer
@@ -74,18 +59,13 @@ wordBuffer p b OtherWord vs = b
 -- from the buffer b at the START
 abbrev pub spanBuffer : Part → ℕ → AddressBuffer → List Byte → AddressBuffer
 spanBuffer p pins b [] = b
-spanBuffer p pins b (word ∷ vs) = wordBuffer p b (wordOf p pins (word .value)) vs
+spanBuffer p pins b (word ∷ vs) = wordBuffer p b (wordIn p pins (word .bits)) vs
 
 -- ---- what the part does after a fall of SCL, by the whole bytes before it and the lines of the byte begun
 
 -- eight rises of the byte are over: the ninth clock acknowledges
 abbrev pub eighth : List Bool → Bool
 eighth bs = eqb (length bs) 8
-
-abbrev pub isOwn : DeviceWord → Bool
-isOwn (ReadWord a16) = true
-isOwn (WriteWord a16) = true
-isOwn OtherWord = false
 
 -- a byte that goes out shows bit 7 - k after k of its rises, k below 8, and pulls at a 0
 abbrev pub showsLow : ℕ → List Bool → Bool
@@ -104,8 +84,8 @@ wordPulls p m b OtherWord vs bs = false
 
 -- an own word is acknowledged; b is the buffer at the START
 abbrev pub spanPulls : Part → ℕ → List ℕ → AddressBuffer → List Byte → List Bool → Bool
-spanPulls p pins m b [] bs = eighth bs && isOwn (wordOf p pins (number bs))
-spanPulls p pins m b (word ∷ vs) bs = wordPulls p m b (wordOf p pins (word .value)) vs bs
+spanPulls p pins m b [] bs = eighth bs && ours (wordIn p pins bs)
+spanPulls p pins m b (word ∷ vs) bs = wordPulls p m b (wordIn p pins (word .bits)) vs bs
 
 -- ---- over a history
 

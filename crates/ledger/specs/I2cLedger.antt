@@ -2,7 +2,7 @@
 -- Histories and lists of items have the latest first.
 use Prim.Native.Nat.{ℕ}
 use mathlib.Core.Bool.{Bool, false, cond, not, _&&_}
-use mathlib.Core.List.{List, [], _∷_, _++_}
+use mathlib.Core.List.{List, [], _∷_, _++_, map}
 use lib.Dec.{eqb}
 use Rattle.parts.specs.declared.part.Part.{Part}
 use Rattle.serial.specs.Address.{nextAddress}
@@ -13,11 +13,11 @@ use Rattle.transfer.specs.declared.edge.Edge.the-variants.{Start, Stop, Rise, F
 use Rattle.transfer.specs.declared.levels.Levels.{Levels}
 use Rattle.transfer.specs.declared.word.DeviceWord.{DeviceWord}
 use Rattle.transfer.specs.declared.word.DeviceWord.the-variants.{ReadWord, WriteWord, OtherWord}
-use Rattle.transfer.specs.Buffer.{joined}
 use Rattle.transfer.specs.Edge.{edgeOn}
 use Rattle.transfer.specs.Levels.{levelsOf}
-use Rattle.transfer.specs.Word.{wordOf}
+use Rattle.ledger.specs.Groups.{Group, Groups, groups}
 use Rattle.ledger.specs.Bits.{number}
+use Rattle.ledger.specs.Word.{wordIn, addressAfter}
 use Rattle.ledger.specs.Stores.{Store}
 use Rattle.ledger.specs.History.{Entry}
 
@@ -88,41 +88,42 @@ items (e ∷ h) = itemsAfter (e .event) (e .answer) (lastWires h) (items h)
 
 -- ---- what the rises of a span say
 
--- a whole byte: the number of its first eight lines, and line and WP at its ninth rise
+-- a whole byte: the lines at its first eight rises, and line and WP at its ninth
 pub record Byte : Type 0 where
-  pub value : ℕ
+  pub bits : List Bool
   pub ninth : Bool
   pub wp : Bool
 
+abbrev pub value : Byte → ℕ
+value v = number (v .bits)
+
+abbrev pub lineAt : Clock → Bool
+lineAt k = k .line
+
+abbrev pub nineRises : Group Clock → Byte
+nineRises g = record { bits = map lineAt (g .front); ninth = g .last .line; wp = g .last .wp }
+
 -- bits are the lines at SCL rises, nine to a byte, whole at the ninth
+abbrev pub risesIn : List Clock → Groups Clock
+risesIn ks = groups 8 ks
+
 abbrev pub bytes : List Clock → List Byte
-bytes [] = []
-bytes (a ∷ []) = []
-bytes (a ∷ b ∷ []) = []
-bytes (a ∷ b ∷ c ∷ []) = []
-bytes (a ∷ b ∷ c ∷ d ∷ []) = []
-bytes (a ∷ b ∷ c ∷ d ∷ e ∷ []) = []
-bytes (a ∷ b ∷ c ∷ d ∷ e ∷ f ∷ []) = []
-bytes (a ∷ b ∷ c ∷ d ∷ e ∷ f ∷ g ∷ []) = []
-bytes (a ∷ b ∷ c ∷ d ∷ e ∷ f ∷ g ∷ h ∷ []) = []
-bytes (a ∷ b ∷ c ∷ d ∷ e ∷ f ∷ g ∷ h ∷ ninth ∷ more) =
-    record {
-      value = number (a .line ∷ b .line ∷ c .line ∷ d .line ∷ e .line ∷ f .line ∷ g .line ∷ h .line ∷ []);
-      ninth = ninth .line;
-      wp = ninth .wp;
-    }
-    ∷ bytes more
+bytes ks = map nineRises (risesIn ks .whole)
+
+-- the lines at the rises after the last whole byte, at most eight
+abbrev pub unfinished : List Clock → List Bool
+unfinished ks = map lineAt (risesIn ks .left)
 
 -- each whole data byte goes to its address, up by one each time and rolled over, and is permitted if WP is 0 at its ninth rise
 abbrev pub placed : Part → ℕ → List Byte → List Store
 placed p a [] = []
-placed p a (v ∷ vs) = cond (v .wp) (placed p (nextAddress (p .size) a) vs) (record { address = a; value = v .value } ∷ placed p (nextAddress (p .size) a) vs)
+placed p a (v ∷ vs) = cond (v .wp) (placed p (nextAddress (p .size) a) vs) (record { address = a; value = value v } ∷ placed p (nextAddress (p .size) a) vs)
 
 -- after the part's write word two address bytes and data follow
 abbrev pub written : Part → Bool → List Byte → List Store
 written p a16 [] = []
 written p a16 (high ∷ []) = []
-written p a16 (high ∷ low ∷ rest) = placed p (joined p a16 (high .value) (low .value)) rest
+written p a16 (high ∷ low ∷ rest) = placed p (addressAfter p a16 (high .bits) (low .bits)) rest
 
 abbrev pub byWord : Part → DeviceWord → List Byte → List Store
 byWord p (ReadWord a16) rest = []
@@ -131,7 +132,7 @@ byWord p OtherWord rest = []
 
 abbrev pub stores : Part → ℕ → List Byte → List Store
 stores p pins [] = []
-stores p pins (word ∷ rest) = byWord p (wordOf p pins (word .value)) rest
+stores p pins (word ∷ rest) = byWord p (wordIn p pins (word .bits)) rest
 
 -- all permitted writes of the items, the first first
 abbrev pub writes : Part → ℕ → List Item → List Store

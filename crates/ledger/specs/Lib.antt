@@ -1,7 +1,12 @@
+pub mod Groups
 pub mod Bits
 pub mod Stores
 pub mod History
+pub mod Word
 pub mod SpiLedger
 pub mod I2cLedger
 pub mod I2cAnswers
 pub mod SpiAnswers
+pub mod Steps
+pub mod Selections
+pub mod Spans

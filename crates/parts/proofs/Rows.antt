@@ -1,6 +1,6 @@
 -- The rules of the table, shown for every row at once: one test that is computed over the list of rows, and the law that
 -- turns a test passed by every row into the rule at each part number. Assumes nothing.
-use Prim.Native.Nat.{ℕ, zero, suc, _<_, _^_, _%_}
+use Prim.Native.Nat.{ℕ, zero, suc, _<_, _≤_, _^_, _%_}
 use mathlib.Core.Path.{_≡_, refl}
 use mathlib.Core.Bool.{Bool, true, false, cond, _&&_}
 use mathlib.Core.List.{List, [], _∷_}
@@ -56,3 +56,7 @@ fit-of p t =
 -- every part of the table fits
 pub part-fits : (n : ℕ) → n < 5 → Fit (partOf n)
 part-fits n h = fit-of (partOf n) (at fits noPart parts refl n h)
+
+-- as many settings of the address pins as the device address word has room for: two pins beside A16, else three
+pub pins-fit : (n : ℕ) → n < 5 → partOf n .pins ≤ cond (partOf n .a16) 4 8
+pins-fit n h = leb-true _ _ (at (λ p. leb (p .pins) (cond (p .a16) 4 8)) noPart parts refl n h)

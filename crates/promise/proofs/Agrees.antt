@@ -38,6 +38,7 @@ use Rattle.ledger.specs.SpiLedger as SpiLedger
 use Rattle.ledger.specs.I2cLedger as I2cLedger
 use Rattle.ledger.proofs.SpiFits as SpiFits
 use Rattle.ledger.proofs.I2cFits as I2cFits
+use Rattle.ledger.proofs.WordLaws.{Wired}
 use Rattle.promise.specs.Ledger.{savedIn, ledgerStores, ledgerBits}
 use Rattle.promise.proofs.Runs.{entered}
 
@@ -119,7 +120,7 @@ module _ (made : Model) (first : List ℕ) where
     i2c-expected true x a v f = f
     i2c-expected false x a v f = f
 
-    spi-agrees : Fit part → (x : SpiState.Spi) (e : Event) → AgreesOn (SpiOn x) st m h → AgreesAfter e (onSpi part (at (SpiOn x)) x m e)
+    pub spi-agrees : Fit part → (x : SpiState.Spi) (e : Event) → AgreesOn (SpiOn x) st m h → AgreesAfter e (onSpi part (at (SpiOn x)) x m e)
     spi-agrees fit x (SpiPowerOn v) f = f
     spi-agrees fit x (I2cPowerOn v a) f = f
     spi-agrees fit x PowerOff f =
@@ -131,15 +132,15 @@ module _ (made : Model) (first : List ℕ) where
     )
     spi-agrees fit x (Expected v) f = let a : Answer = SpiShow.answerAt (x .last) (x .shown) in spi-expected (eqb v (answerNumber a)) x a v f
 
-    i2c-agrees : (x : I2cState.I2c) (e : Event) → AgreesOn (I2cOn x) st m h → AgreesAfter e (onI2c part (at (I2cOn x)) x m e)
-    i2c-agrees x (SpiPowerOn v) f = f
-    i2c-agrees x (I2cPowerOn v a) f = f
-    i2c-agrees x PowerOff f = (rw (f .0) (f .1 .memory-is), rw (f .0, i2c-unsaved (made .part) (f .0)))
-    i2c-agrees x (Sample v) f =
-        (f .0, I2cFits.sample-good part (made .pins) first x (I2cLevels.levelsOf v) m (I2cLedger.items h) (I2cLedger.lastWires h) (f .1))
-    i2c-agrees x (Expected v) f = let a : Answer = I2cSample.answerOf (x .pulling) in i2c-expected (eqb v (answerNumber a)) x a v f
+    i2c-agrees : Wired part (made .pins) → (x : I2cState.I2c) (e : Event) → AgreesOn (I2cOn x) st m h → AgreesAfter e (onI2c part (at (I2cOn x)) x m e)
+    i2c-agrees wired x (SpiPowerOn v) f = f
+    i2c-agrees wired x (I2cPowerOn v a) f = f
+    i2c-agrees wired x PowerOff f = (rw (f .0) (f .1 .memory-is), rw (f .0, i2c-unsaved (made .part) (f .0)))
+    i2c-agrees wired x (Sample v) f =
+        (f .0, I2cFits.sample-good part (made .pins) first wired x (I2cLevels.levelsOf v) m (I2cLedger.items h) (I2cLedger.lastWires h) (f .1))
+    i2c-agrees wired x (Expected v) f = let a : Answer = I2cSample.answerOf (x .pulling) in i2c-expected (eqb v (answerNumber a)) x a v f
 
-    pub event-agrees : Fit part → (b : BusState) (e : Event) → Suits part e → AgreesOn b st m h → AgreesAfter e (advanceOn b part (at b) m e)
-    event-agrees fit Unpowered e u f = unpowered-agrees e u f
-    event-agrees fit (SpiOn x) e u f = spi-agrees fit x e f
-    event-agrees fit (I2cOn x) e u f = i2c-agrees x e f
+    pub event-agrees : Fit part → Wired part (made .pins) → (b : BusState) (e : Event) → Suits part e → AgreesOn b st m h → AgreesAfter e (advanceOn b part (at b) m e)
+    event-agrees fit wired Unpowered e u f = unpowered-agrees e u f
+    event-agrees fit wired (SpiOn x) e u f = spi-agrees fit x e f
+    event-agrees fit wired (I2cOn x) e u f = i2c-agrees wired x e f

@@ -2,10 +2,11 @@
 -- old or the new one at every moment, and a cut changes no byte. For every making, every first memory and every list of events.
 -- From the memory's agreement with the ledger after every list. Assumes nothing.
 use Prim.Native.Nat.{ℕ}
-use mathlib.Core.Path.{_≡_, refl, sym, ap, _∙_}
+use mathlib.Core.Path.{_≡_, refl, sym, ap, _∙_, subst}
 use mathlib.Core.Bool.{Bool, true, false, cond}
 use mathlib.Core.List.{List, [], _∷_, _++_, append-nil}
 use lib.Dec.{eqb}
+use lib.ListN.{length}
 use Rattle.parts.specs.declared.part.Part.{Part}
 use Rattle.parts.specs.Table.{isSpi, partOf}
 use Rattle.parts.proofs.Rows.{part-fits}
@@ -23,17 +24,18 @@ use Rattle.ledger.specs.Bits.{bytes}
 use Rattle.ledger.specs.History.{Entry}
 use Rattle.ledger.specs.Stores.{Store, stored}
 use Rattle.ledger.specs.SpiLedger.{End, unended, ended, Item, powerOn, powerOff, selection, items, Reading, partial, command, reading, dataBytes, asleep, heard, unlessAny, enableAfter, enabled, SavedBits, writes}
+use Rattle.ledger.proofs.Proper.{AllProper, proper-last}
 use Rattle.ledger.proofs.StoreLaws.{storesOf, stored-append}
 use Rattle.promise.specs.Lists.{Seen, shown, modelAfter, memoryAfter}
 use Rattle.promise.specs.Fed.{withEvent}
 use Rattle.promise.specs.Ledger.{savedIn, ledgerStores}
 use Rattle.promise.specs.Promise.{madeBy, cut, thenCut, historyOf}
 use Rattle.promise.specs.Corollaries.{isWren, NoWren, OldOrNew, old, new}
-use Rattle.promise.proofs.Ranges.{made-in, made-off}
-use Rattle.promise.proofs.Stays.{cut-memory, cut-refused}
+use Rattle.promise.proofs.Ranges.{range-wired, made-in, made-off}
+use Rattle.promise.proofs.Stays.{accepted-sized, cut-memory, cut-refused}
 use Rattle.promise.proofs.Joins.{model-join, memory-join, fed-join}
-use Rattle.promise.proofs.Steps.{list-memory}
-use Rattle.promise.proofs.Grows.{Grown, ledger-grows}
+use Rattle.promise.proofs.Steps.{list-fits, list-memory}
+use Rattle.promise.proofs.Grows.{Grown, ledger-grows, ledger-proper}
 
 -- ---- without the enable
 
@@ -91,9 +93,13 @@ module _ (p : Part) (made : SavedBits) where
 
 -- ---- old or new
 
-by-write : (first : List ℕ) (ws ws′ : List Store) (w : Write) → ws′ ≡ ws ++ storesOf w → OldOrNew (stored first ws) (stored first ws′) ws ws′
-by-write first ws ws′ Nothing e = let q = e ∙ append-nil ws in old (ap (stored first) q) q
-by-write first ws ws′ (Byte a v) e = new (record { address = a; value = v }) (ap (stored first) e ∙ stored-append first ws _) e
+by-write : (first : List ℕ) (ws ws′ : List Store) (w : Write) → ws′ ≡ ws ++ storesOf w → AllProper (length (stored first ws)) ws′
+    → OldOrNew (stored first ws) (stored first ws′) ws ws′
+by-write first ws ws′ Nothing e h = let q = e ∙ append-nil ws in old (ap (stored first) q) q
+by-write first ws ws′ (Byte a v) e h =
+    let w : Store = record { address = a; value = v } in
+    let r = proper-last (length (stored first ws)) ws w (rw e at h) in
+    new w (r .inside) (r .byte) (ap (stored first) e ∙ stored-append first ws _) e
 
 module _ (part pins bits : ℕ) (first : List ℕ) where
   abbrev pub model : Model
@@ -142,23 +148,45 @@ module _ (part pins bits : ℕ) (first : List ℕ) where
 
   -- ---- one event more
 
-  module _ (es : List (List ℕ)) (t : List ℕ) where
-    fed-grows : (y : Bool) (r : Read) (a : ℕ) (h : List Entry)
-        → Grown (ledgerStores model h) (ledgerStores model (cond y (withEvent r a h) h))
-    fed-grows true (Whole e n) a h =
-        ledger-grows model (part-fits (model .part) (model-in model (made-in part pins bits .0) .known) .wide) e a h
-    fed-grows true (Refused r) a h = (Nothing, sym (append-nil (ledgerStores model h)))
-    fed-grows false r a h = (Nothing, sym (append-nil (ledgerStores model h)))
+  -- the memory has the part's size, where an event is accepted
+  writes-proper : (es : List (List ℕ)) → AllProper (row .size) (writesOf es)
+  writes-proper es = ledger-proper model (part-fits (model .part) (model-in model (made-in part pins bits .0) .known) .positive) (historyOf model first es)
 
-    grows : Grown (writesOf es) (writesOf (es ++ (t ∷ [])))
-    grows =
-        let x : Seen = shown (eventOf (modelAfter model first es) (memoryOf es) t) in
-        rw (fed-join row es (t ∷ []) model first []) (fed-grows (eqb (x .number) 0) (readOf row t) (x .answer) (historyOf model first es))
+  module _ (es : List (List ℕ)) (t : List ℕ) where
+    abbrev next : Seen
+    next = shown (eventOf (modelAfter model first es) (memoryOf es) t)
+
+    -- the list with t, whose event is accepted (y) or not
+    writes-next : writesOf (es ++ (t ∷ []))
+        ≡ ledgerStores model (cond (eqb (next .number) 0) (withEvent (readOf row t) (next .answer) (historyOf model first es)) (historyOf model first es))
+    writes-next = ap (ledgerStores model) (fed-join row es (t ∷ []) model first [])
+
+    read-grows : (r : Read) (a : ℕ) (h : List Entry) → Grown (ledgerStores model h) (ledgerStores model (withEvent r a h))
+    read-grows (Whole e n) a h =
+        ledger-grows model (part-fits (model .part) (model-in model (made-in part pins bits .0) .known) .wide)
+        (range-wired model (made-in part pins bits)) e a h
+    read-grows (Refused r) a h = (Nothing, sym (append-nil (ledgerStores model h)))
+
+    -- an accepted event had a memory of the part's size
+    sized : eqb (next .number) 0 ≡ true → length (memoryOf es) ≡ row .size
+    sized e =
+        accepted-sized (modelAfter model first es) (memoryOf es) t e
+        ∙ ap (λ (n : ℕ). partOf n .size) (list-fits model first (made-in part pins bits) (made-off part pins bits) es .part-is)
 
     -- for every list and one more event: memory and ledger are as before, or both got one byte at one address, the same
     pub old-or-new : OldOrNew (memoryOf es) (memoryOf (es ++ (t ∷ []))) (writesOf es) (writesOf (es ++ (t ∷ [])))
-    old-or-new =
-        rw (memory-of es, memory-of (es ++ (t ∷ []))) (by-write first (writesOf es) (writesOf (es ++ (t ∷ []))) (grows .0) (grows .1))
+    old-or-new = by (eqb (next .number) 0) refl
+      where
+        by : (y : Bool) → eqb (next .number) 0 ≡ y → OldOrNew (memoryOf es) (memoryOf (es ++ (t ∷ []))) (writesOf es) (writesOf (es ++ (t ∷ [])))
+        by true e =
+            let g : Grown (writesOf es) (writesOf (es ++ (t ∷ []))) =
+            rw (writes-next, e) (read-grows (readOf row t) (next .answer) (historyOf model first es)) in
+            let n : AllProper (length (stored first (writesOf es))) (writesOf (es ++ (t ∷ []))) =
+            subst (λ (k : ℕ). AllProper k (writesOf (es ++ (t ∷ [])))) (sym (sized e) ∙ ap length (memory-of es)) (writes-proper (es ++ (t ∷ []))) in
+            rw (memory-of es, memory-of (es ++ (t ∷ []))) (by-write first (writesOf es) (writesOf (es ++ (t ∷ []))) (g .0) (g .1) n)
+        by false e =
+            let q : writesOf (es ++ (t ∷ [])) ≡ writesOf es = writes-next ∙ rw e in
+            old (same-writes es (es ++ (t ∷ [])) q) q
 
   -- a cut changes no byte
   pub cut-keeps-memory : (es : List (List ℕ)) → memoryOf (thenCut es) ≡ memoryOf es

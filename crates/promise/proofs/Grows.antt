@@ -1,5 +1,5 @@
--- One event more in a history adds at most one permitted write to the ledger, after those that were there: for every part whose
--- addresses have bits, by selections and by spans. Assumes nothing.
+-- One event more in a history adds at most one permitted write to the ledger, after those that were there, and each puts a byte at an
+-- address of the part: for every part whose addresses have bits, by selections and by spans. Assumes nothing.
 use Prim.Native.Nat.{ℕ, _<_}
 use mathlib.Core.Path.{_≡_, refl, sym}
 use mathlib.Core.Bool.{Bool, true, false, cond}
@@ -31,7 +31,9 @@ use Rattle.ledger.specs.SpiLedger.{unended, ended, powerOn, powerOff, selection
 use Rattle.ledger.specs.SpiLedger as SpiLedger
 use Rattle.ledger.specs.I2cLedger.{Clock, idle, span}
 use Rattle.ledger.specs.I2cLedger as I2cLedger
+use Rattle.ledger.proofs.Proper.{AllProper, spi-proper, i2c-proper}
 use Rattle.ledger.proofs.StoreLaws.{storesOf}
+use Rattle.ledger.proofs.WordLaws.{Wired}
 use Rattle.ledger.proofs.SpiReads.{phaseAfter, no-stores, stores-snoc}
 use Rattle.ledger.proofs.I2cReads.{after, wrote-more, span-wrote}
 use Rattle.promise.specs.Ledger.{savedIn, ledgerStores}
@@ -100,7 +102,7 @@ module _ (p : Part) (made : SavedBits) (wide : 0 < p .width) where
 
 -- ---- I2C
 
-module _ (p : Part) (pins : ℕ) where
+module _ (p : Part) (pins : ℕ) (wired : Wired p pins) where
   abbrev i2cStores : List I2cLedger.Item → List Store
   i2cStores is = I2cLedger.writes p pins is
 
@@ -110,7 +112,7 @@ module _ (p : Part) (pins : ℕ) where
   clock-grows k (span ks ∷ is) =
       let b : AddressBuffer = record { address = 0; used = false } in (
         I2cStore.riseWrite (after p pins (I2cPhases.Taking Word 0 0) b ks .phase) (k .wp),
-        rw (← span-wrote p pins b (ks ++ (k ∷ [])), wrote-more, span-wrote, append-assoc),
+        rw (← span-wrote p pins wired b (ks ++ (k ∷ [])), wrote-more, span-wrote p pins wired, append-assoc),
       )
 
   line-grows : (e : I2cEdge.Edge) (wp : Bool) (is : List I2cLedger.Item) → Grown (i2cStores is) (i2cStores (I2cLedger.noted e wp is))
@@ -131,10 +133,19 @@ module _ (p : Part) (pins : ℕ) where
 
 -- ---- either
 
-pub ledger-grows : (made : Model) → 0 < partOf (made .part) .width → (e : Event) (a : ℕ) (h : List Entry)
+pub ledger-grows : (made : Model) → 0 < partOf (made .part) .width → Wired (partOf (made .part)) (made .pins) → (e : Event) (a : ℕ) (h : List Entry)
     → Grown (ledgerStores made h) (ledgerStores made (record { event = e; answer = a } ∷ h))
-ledger-grows made wide e a h = by (isSpi (partOf (made .part) .bus)) refl
+ledger-grows made wide wired e a h = by (isSpi (partOf (made .part) .bus)) refl
   where
     by : (y : Bool) → isSpi (partOf (made .part) .bus) ≡ y → Grown (ledgerStores made h) (ledgerStores made (record { event = e; answer = a } ∷ h))
     by true q = rw q (spi-grows (partOf (made .part)) (savedIn (made .status)) wide e a h)
-    by false q = rw q (i2c-grows (partOf (made .part)) (made .pins) e a h)
+    by false q = rw q (i2c-grows (partOf (made .part)) (made .pins) wired e a h)
+
+-- ---- and every one is a byte at an address of the part
+
+pub ledger-proper : (made : Model) → 0 < partOf (made .part) .size → (h : List Entry) → AllProper (partOf (made .part) .size) (ledgerStores made h)
+ledger-proper made positive h = by (isSpi (partOf (made .part) .bus)) refl
+  where
+    by : (y : Bool) → isSpi (partOf (made .part) .bus) ≡ y → AllProper (partOf (made .part) .size) (ledgerStores made h)
+    by true q = rw q (spi-proper (partOf (made .part)) positive (savedIn (made .status)) (heard (partOf (made .part)) (SpiLedger.items h)))
+    by false q = rw q (i2c-proper (partOf (made .part)) positive (made .pins) (I2cLedger.items h))

@@ -27,11 +27,12 @@ use Rattle.chip.proofs.CheckLaws.{sound-in, i2c-ready}
 use Rattle.ledger.specs.History.{Entry}
 use Rattle.ledger.specs.I2cLedger.{Clock, wiresAt, edgeBetween, lastWires, items}
 use Rattle.ledger.specs.I2cAnswers.{bufferBefore, bufferOf, none, after, lastFall, pulls, pullAnswer, presentAnswer}
+use Rattle.ledger.proofs.WordLaws.{Wired}
 use Rattle.ledger.proofs.I2cAnswers.{Shows, buffer-is, carried-inside, pull-number, sample-shows, sample-answer, step-answer, power-shows}
 use Rattle.promise.specs.Lists.{modelAfter, memoryAfter}
 use Rattle.promise.specs.Promise.{historyOf}
 use Rattle.promise.specs.I2cAnswers.{AllAnswered}
-use Rattle.promise.proofs.Ranges.{InRange}
+use Rattle.promise.proofs.Ranges.{InRange, range-wired}
 use Rattle.promise.proofs.Runs.{entered, runs}
 use Rattle.promise.proofs.Agrees.{AgreesOn}
 use Rattle.promise.proofs.Steps.{Fits, step, start}
@@ -56,7 +57,7 @@ module _ (made : Model) (first : List ℕ) (i2c : isSpi (partOf (made .part) .bu
   Said h = AllAnswered part (made .pins) first h
 
   -- one event of a model of this part and these pins
-  module _ (st : Status) (m : List ℕ) (h : List Entry) (said : Said h) where
+  module _ (wired : Wired part (made .pins)) (st : Status) (m : List ℕ) (h : List Entry) (said : Said h) where
     abbrev at : BusState → Model
     at b = modelOf (made .part) (made .pins) st b
 
@@ -65,7 +66,7 @@ module _ (made : Model) (first : List ℕ) (i2c : isSpi (partOf (made .part) .bu
 
     unpowered-shows : (e : Event) → Suits part e → ShowsOn Unpowered h → After e (keeping m (onUnpowered (at Unpowered) e))
     unpowered-shows (SpiPowerOn x) u f = absurd (not-spi u)
-    unpowered-shows (I2cPowerOn x a) u f = ((power-shows part (made .pins) first (levelsOf x) a (items h), refl, u .1), (refl, said))
+    unpowered-shows (I2cPowerOn x a) u f = ((power-shows part (made .pins) first wired (levelsOf x) a (items h), refl, u .1), (refl, said))
     unpowered-shows PowerOff u f = (f, said)
     unpowered-shows (Sample x) u f = (f, said)
     unpowered-shows (Expected v) u f = (f, said)
@@ -89,12 +90,12 @@ module _ (made : Model) (first : List ℕ) (i2c : isSpi (partOf (made .part) .bu
         let o = stepOf part (made .pins) x l m in
         let ready = i2c-ready (at (I2cOn x)) x m refl (sound-in (at (I2cOn x)) m c) in (
           (
-            sample-shows part (made .pins) first x l m is w b (lastFall h) (a .1) g,
-            step-answer part (made .pins) first x l m,
-            carried-inside part (made .pins) first (edgeBetween w (wiresAt l (answerNumber (o .answer)))) (x .phase) (x .buffer) b is (g .led)
+            sample-shows part (made .pins) first wired x l m is w b (lastFall h) (a .1) g,
+            step-answer part (made .pins) first wired x l m,
+            carried-inside part (made .pins) first wired (edgeBetween w (wiresAt l (answerNumber (o .answer)))) (x .phase) (x .buffer) b is (g .led)
                 (ready .placed .buffered) k,
           ),
-          (rw q (sample-answer part (made .pins) first x l m is w b (lastFall h) (a .1) g), said),
+          (rw q (sample-answer part (made .pins) first wired x l m is w b (lastFall h) (a .1) g), said),
         )
     i2c-shows x (Expected v) c a f = expected-shows (eqb v (answerNumber (answerOf (x .pulling)))) x v f
 
@@ -126,7 +127,7 @@ module _ (made : Model) (first : List ℕ) (i2c : isSpi (partOf (made .part) .bu
         → Sound (modelOf (made .part) (made .pins) st b) m → AgreesOn made first b st m h → ShowsOn b h
         → StepAt (modelOf (made .part) (made .pins) st b) m h e
     unfolding advanceOf
-    step-at b st m h e d u c a f = event-shows st m h d b e u c a f
+    step-at b st m h e d u c a f = event-shows (range-wired made inside) st m h d b e u c a f
 
     one : (s : Model) (m : List ℕ) (h : List Entry) (e : Event) → Fitting s m h → Sound s m → Suits part e
         → Fitting (advanceOf s m e .result .model) (advanceOf s m e .memory) (entered e (advanceOf s m e) h)
@@ -153,7 +154,7 @@ module _ (made : Model) (first : List ℕ) (i2c : isSpi (partOf (made .part) .bu
           → x .buffer ≡ bufferOf part (made .pins) (historyOf made first es)
       list-buffer es x q =
           let f = rw q at (list-fitting es .shows) in
-          buffer-is part (made .pins) first (x .phase) (x .buffer) (bufferBefore part (made .pins) (historyOf made first es))
+          buffer-is part (made .pins) first (range-wired made inside) (x .phase) (x .buffer) (bufferBefore part (made .pins) (historyOf made first es))
           (items (historyOf made first es)) (f .0 .led)
 
       -- with a fall in the open span there is power, and the buffer at its START holds an address of the part

@@ -10,14 +10,14 @@ use Rattle.parts.specs.Table.{isSpi, partOf}
 use Rattle.parts.proofs.Rows.{part-fits}
 use Rattle.transfer.specs.declared.word.DeviceWord.the-variants.{ReadWord}
 use Rattle.transfer.specs.Buffer.{readAddress}
-use Rattle.transfer.specs.Word.{wordOf}
 use Rattle.transfer.proofs.BufferLaws.{read-within}
 use Rattle.chip.specs.declared.model.Model.{Model}
 use Rattle.chip.proofs.CheckLaws.{model-in}
 use Rattle.serial.specs.Bits.{bitAt}
 use Rattle.ledger.specs.History.{Entry}
-use Rattle.ledger.specs.I2cLedger.{Clock, Byte, bytes}
-use Rattle.ledger.specs.I2cAnswers.{unfinished, after, lastFall, bufferBefore, memoryOf, pullAnswer, presentAnswer}
+use Rattle.ledger.specs.Word.{wordIn}
+use Rattle.ledger.specs.I2cLedger.{Clock, Byte, bytes, unfinished}
+use Rattle.ledger.specs.I2cAnswers.{after, lastFall, bufferBefore, memoryOf, pullAnswer, presentAnswer}
 use Rattle.ledger.proofs.I2cSends.{AllLow, span-sends}
 use Rattle.promise.specs.Promise.{madeBy, historyOf}
 use Rattle.promise.proofs.Ranges.{made-in, made-off}
@@ -46,7 +46,7 @@ module _ (part pins bits : ℕ) (first : List ℕ) (es : List (List ℕ)) where
     -- SCL last fell after rises that make an own read word, then whole bytes vs that each asked for the next one, then k rises, k below
     -- 8: the answer is 0 exactly if bit 7 - k of the ledger's byte at the read address plus the number of vs, modulo the size, is 0; else 2
     pub read-sends : (ks : List Clock) (word : Byte) (vs : List Byte) (a16 : Bool) → lastFall history ≡ after ks → bytes ks ≡ word ∷ vs
-        → wordOf row (made .pins) (word .value) ≡ ReadWord a16 → AllLow vs → length (unfinished ks) < 8
+        → wordIn row (made .pins) (word .bits) ≡ ReadWord a16 → AllLow vs → length (unfinished ks) < 8
         → presentAnswer history
         ≡ pullAnswer (not (bitAt (getD (memoryOf row (made .pins) first history) ((from a16 + length vs) % row .size) 0) (length (unfinished ks))))
     read-sends ks word vs a16 q n w l k =

@@ -10,7 +10,7 @@ use lib.ListN.{length}
 use borrow.Author.Tests.{ltb-true}
 use Rattle.parts.specs.Status.{cleared}
 use Rattle.parts.specs.Table.{partOf}
-use Rattle.parts.proofs.Rows.{and-both}
+use Rattle.parts.proofs.Rows.{and-both, pins-fit}
 use Rattle.trace.specs.declared.read.Read.{Read}
 use Rattle.trace.specs.declared.read.Read.the-variants.{Whole, Refused}
 use Rattle.trace.specs.Read.{readOf}
@@ -22,11 +22,12 @@ use Rattle.chip.specs.declared.model.Model.{Model}
 use Rattle.chip.specs.Check.{noBits, modelIn, busIn, checkOf, Sound}
 use Rattle.events.specs.Event.{advanceOf}
 use Rattle.chip.specs.Model.{unpowered}
-use Rattle.chip.proofs.CheckLaws.{model-test, sound-in}
+use Rattle.chip.proofs.CheckLaws.{model-in, model-test, sound-in}
 use Rattle.events.proofs.Keeps.{keeps}
 use Rattle.model.specs.declared.make.Made.{Made}
 use Rattle.runs.specs.Event.{onRead, onVerdict, eventOf}
 use Rattle.model.specs.Make.{statusOf, makeIn, makeOf}
+use Rattle.ledger.proofs.WordLaws.{Wired}
 use Rattle.promise.specs.Lists.{modelAfter}
 
 -- neither number 1 nor number 2 is given
@@ -35,6 +36,10 @@ InRange s = (modelIn s ≡ true) × (busIn (partOf (s .part)) (s .status) (s .bu
 
 sound-range : (s : Model) (m : List ℕ) → Sound s m → InRange s
 sound-range s m h = let r = sound-in s m h in (model-test s (r .model), r .bus)
+
+-- pins in range are such that the device address word can draw them
+pub range-wired : (s : Model) → InRange s → Wired (partOf (s .part)) (s .pins)
+range-wired s h = let r = model-in s (h .0) in omega (arith, r .wired, pins-fit (s .part) (r .known))
 
 -- ---- making
 

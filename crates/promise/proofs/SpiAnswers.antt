@@ -45,7 +45,7 @@ use Rattle.promise.proofs.Ranges.{InRange, made-in, made-off}
 use Rattle.promise.proofs.Stays.{accepted-whole}
 use Rattle.promise.proofs.Joins.{fed-join}
 use Rattle.promise.proofs.Runs.{entered, runs}
-use Rattle.promise.proofs.Agrees.{AgreesOn, event-agrees}
+use Rattle.promise.proofs.Agrees.{AgreesOn, spi-agrees}
 use Rattle.promise.proofs.Steps.{Fits, step, start}
 
 -- the answer of a sample is the present answer after it
@@ -118,7 +118,7 @@ module _ (made : Model) (first : List ℕ) where
           let m′ : List ℕ = applied (o .write) m in
           let g′ : ShowsOn (SpiOn (o .spi)) (o .status) m′ (e ∷ h) =
           rw (f .2) (sample-shows part (savedIn (made .status)) first fit st x l m (items h) (lastFall part h) (f .1) g) in
-          let f′ = event-agrees made first st m h fit (SpiOn x) (Sample v) tt f in
+          let f′ = spi-agrees made first st m h fit x (Sample v) f in
           (g′, (ap answerNumber (sample-answer part st x l m) ∙ present (o .spi) (o .status) m′ (e ∷ h) f′ g′, q))
 
       spi-next : (e : Event) → Next e (onSpi part (at (SpiOn x)) x m e)

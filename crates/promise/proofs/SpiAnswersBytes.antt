@@ -13,13 +13,17 @@ use Rattle.parts.specs.declared.status.Status.{Status}
 use Rattle.parts.specs.Status.{bit, statusByte}
 use Rattle.parts.specs.Table.{isSpi, partOf}
 use Rattle.selection.specs.declared.opcode.Command.the-variants.{RDSR, READ}
+use Rattle.parts.proofs.Rows.{part-fits}
 use Rattle.chip.specs.declared.model.Model.{Model}
+use Rattle.chip.proofs.CheckLaws.{model-in}
 use Rattle.ledger.specs.Bits.{number}
-use Rattle.ledger.specs.SpiLedger.{Item, command, reading}
+use Rattle.ledger.specs.SpiLedger.{Item, items, command, reading, heard, writes}
 use Rattle.ledger.specs.SpiAnswers.{memoryNow, registerNow}
+use Rattle.ledger.proofs.Proper.{stored-below, spi-proper}
 use Rattle.promise.specs.Ledger.{savedIn}
 use Rattle.promise.specs.Promise.{madeBy, historyOf}
-use Rattle.promise.specs.SpiBytes.{Clocked, byteOf, byteShown}
+use Rattle.promise.specs.SpiBytes.{AllBytes, Clocked, byteOf, byteShown}
+use Rattle.promise.proofs.Ranges.{made-in}
 use Rattle.promise.proofs.SpiAnswersShown.{rdsr-shows, read-shows}
 
 -- a number halved eight times, with the bits left over and what is left of 256
@@ -64,6 +68,13 @@ module _ (part pins bits : ℕ) (first : List ℕ) where
   abbrev row : Part
   row = partOf (model .part)
 
+  -- the ledger's memory holds bytes
+  now-below : AllBytes first → (es : List (List ℕ)) (a : ℕ) → getD (memoryNow row (savedIn (model .status)) first (historyOf model first es)) a 0 < 256
+  now-below fits es a =
+      let is = heard row (items (historyOf model first es)) in
+      let positive = part-fits (model .part) (model-in model (made-in part pins bits .0) .known) .positive in
+      stored-below (row .size) first (writes row (savedIn (model .status)) is) fits (spi-proper row positive (savedIn (model .status)) is) a
+
   module _ (spi : isSpi (row .bus) ≡ true) (es : List (List ℕ)) (bs : List Bool) (is : List Item) (c : Clocked part pins bits first es bs is)
       (i : ℕ) where
     -- after the opcode RDSR every byte is the ledger's status byte
@@ -77,12 +88,13 @@ module _ (part pins bits : ℕ) (first : List ℕ) where
         ∙ status-fits (registerNow row (savedIn (model .status)) (historyOf model first es))
 
     -- after READ and its address byte number i is the ledger's at the address and i further, modulo the size
-    pub read-bytes : (address : List Bool) → length address ≡ row .width → reading row bs ≡ command READ address
-        → byteShown part pins bits first es i ≡ getD (memoryNow row (savedIn (model .status)) first (historyOf model first es)) ((number address + i) % row .size) 0 % 256
-    read-bytes address w q =
+    pub read-bytes : AllBytes first → (address : List Bool) → length address ≡ row .width → reading row bs ≡ command READ address
+        → byteShown part pins bits first es i ≡ getD (memoryNow row (savedIn (model .status)) first (historyOf model first es)) ((number address + i) % row .size) 0
+    read-bytes fits address w q =
         let m : List ℕ = memoryNow row (savedIn (model .status)) first (historyOf model first es) in
         let v : ℕ = getD m ((number address + i) % row .size) 0 in
         let bitOf : ℕ → ℕ → ℕ = λ n j. getD m ((number address + n) % row .size) 0 / 2 ^ (7 - j) % 2 in
         byte-same _ (λ k. v / 2 ^ (7 - k) % 2)
         (λ k l. read-shows part pins bits first spi es bs is c (8 * i + k) address w q .1 ∙ ap₂ bitOf (byte-of i k l) (bit-of i k l))
         ∙ eight-bits v
+        ∙ mod-eq-of-lt (now-below fits es ((number address + i) % row .size))

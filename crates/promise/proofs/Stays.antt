@@ -20,6 +20,7 @@ use Rattle.chip.specs.declared.model.BusState.{BusState}
 use Rattle.chip.specs.declared.model.BusState.the-variants.{Unpowered, SpiOn, I2cOn}
 use Rattle.chip.specs.declared.model.Model.{Model}
 use Rattle.chip.specs.Check.{checkOf}
+use Rattle.chip.proofs.CheckLaws.{sound-in}
 use Rattle.events.specs.Event.{advanceOn, advanceOf}
 use Rattle.runs.specs.Event.{onRead, onVerdict, eventOf}
 use Rattle.promise.specs.Promise.{cut}
@@ -38,6 +39,15 @@ module _ (s : Model) (m : List ℕ) where
       by : (v : Verdict) → eqb (onVerdict v s m t .result .number) 0 ≡ true → (e : Event) × (n : ℕ) × readOf (partOf (s .part)) t ≡ Whole e n
       by Passed h = by-read (readOf (partOf (s .part)) t) refl h
       by (Failed r) h = absurd (false≢true (sym (refusal-counts r) ∙ h))
+
+  -- and only if the memory has the part's size
+  pub accepted-sized : (t : List ℕ) → eqb (eventOf s m t .result .number) 0 ≡ true → length m ≡ partOf (s .part) .size
+  unfolding eventOf
+  accepted-sized t = by (checkOf s (length m)) refl
+    where
+      by : (v : Verdict) → checkOf s (length m) ≡ v → eqb (onVerdict v s m t .result .number) 0 ≡ true → length m ≡ partOf (s .part) .size
+      by Passed q h = sound-in s m q .sized
+      by (Failed r) q h = absurd (false≢true (sym (refusal-counts r) ∙ h))
 
   -- ---- a cut
 

@@ -32,7 +32,7 @@ use Rattle.ledger.specs.SpiLedger.{register}
 use Rattle.promise.specs.Lists.{modelAfter, memoryAfter}
 use Rattle.promise.specs.Ledger.{savedIn, ledgerStores, ledgerBits}
 use Rattle.promise.specs.Promise.{cut, historyOf}
-use Rattle.promise.proofs.Ranges.{InRange}
+use Rattle.promise.proofs.Ranges.{InRange, range-wired}
 use Rattle.promise.proofs.Runs.{entered, runs}
 use Rattle.events.proofs.Stays.{stays}
 use Rattle.promise.proofs.Agrees.{i2c-unsaved, AgreesOn, memory-agrees, event-agrees}
@@ -86,7 +86,7 @@ module _ (made : Model) (first : List ℕ) where
           part-is = stays s m e .part-stays;
           pins-are = stays s m e .pins-stay;
           passed = tested (o .result .model .bus) (o .result .model) (o .memory) (keeps s m e c u);
-          agrees = event-agrees made first st m h (part-fits (made .part) (model-in made (inside .0) .known)) b e u f;
+          agrees = event-agrees made first st m h (part-fits (made .part) (model-in made (inside .0) .known)) (range-wired made inside) b e u f;
         }
 
     pub step : (s : Model) (m : List ℕ) (h : List Entry) (e : Event) → Fits s m h → Sound s m → Suits part e → StepAt s m h e

@@ -1,9 +1,9 @@
 -- The words of what follows from demand 3: selections without a WREN, and memory before and after one event.
-use Prim.Native.Nat.{ℕ}
+use Prim.Native.Nat.{ℕ, _<_}
 use mathlib.Core.Path.{_≡_}
 use mathlib.Core.Bool.{Bool, true, false}
 use mathlib.Core.List.{List, [], _∷_, _++_}
-use lib.ListN.{set}
+use lib.ListN.{length, set}
 use Rattle.parts.specs.declared.part.Part.{Part}
 use Rattle.selection.specs.declared.opcode.Command.{Command}
 use Rattle.selection.specs.declared.opcode.Command.the-variants.{WREN, WRDI, RDSR, WRSR, READ, WRITE, FSTRD, RDID, SLEEP, Unknown}
@@ -34,7 +34,7 @@ NoWren p (powerOn ∷ is) = NoWren p is
 NoWren p (powerOff ∷ is) = NoWren p is
 NoWren p (selection bs e ∷ is) = (isWren (reading p bs) ≡ false) × NoWren p is
 
--- memory and permitted writes before and after an event: both as before, or both with the same byte more
+-- memory and permitted writes before and after an event: both as before, or both with the same byte more, at an address of the memory
 pub data OldOrNew (m m′ : List ℕ) (ws ws′ : List Store) : Type 0 where
   old : m′ ≡ m → ws′ ≡ ws → OldOrNew m m′ ws ws′
-  new : (w : Store) → m′ ≡ set m (w .address) (w .value) → ws′ ≡ ws ++ (w ∷ []) → OldOrNew m m′ ws ws′
+  new : (w : Store) → w .address < length m → w .value < 256 → m′ ≡ set m (w .address) (w .value) → ws′ ≡ ws ++ (w ∷ []) → OldOrNew m m′ ws ws′

@@ -1,9 +1,10 @@
 -- The words of what a host reads bit by bit and byte by byte on an SPI part: clocks after a list of events, and the byte that eight of
 -- them show.
-use Prim.Native.Nat.{ℕ, zero, suc, _+_, _*_}
+use Prim.Native.Nat.{ℕ, zero, suc, _+_, _*_, _<_}
 use mathlib.Core.Path.{_≡_}
 use mathlib.Core.Bool.{Bool, true, false}
 use mathlib.Core.List.{List, [], _∷_, _++_}
+use lib.ListN.{length, getD}
 use Rattle.parts.specs.Table.{partOf}
 use Rattle.ledger.specs.SpiLedger.{unended, Item, selection, lastSample, items, asleep}
 use Rattle.promise.specs.Promise.{madeBy, historyOf}
@@ -23,6 +24,10 @@ rise = sample 26
 abbrev pub clocks : ℕ → List (List ℕ)
 clocks zero = []
 clocks (suc n) = clocks n ++ (fall ∷ rise ∷ [])
+
+-- a lent memory is a list of bytes
+abbrev pub AllBytes : List ℕ → Type 0
+AllBytes m = (a : ℕ) → a < length m → getD m a 0 < 256
 
 -- eight bits, most significant first
 abbrev pub byteOf : (ℕ → ℕ) → ℕ
