@@ -2,35 +2,23 @@
 -- the history says of the open span, and no event answers 1. From the agreement after every list. Assumes nothing.
 use Prim.Native.Nat.{ℕ, _<_}
 use mathlib.Core.Path.{_≡_, refl, sym, ap, _∙_}
-use mathlib.Core.Bool.{Bool, true, false, cond, false≢true}
+use mathlib.Core.Bool.{Bool, true, false}
 use mathlib.Core.List.{List, [], _∷_, _++_}
 use native.Mathlib.Omega.{arith}
 use lib.Dec.{eqb, ltb}
-use lib.ListN.{length}
-use borrow.Author.Tests.{lt-ltb}
-use Rattle.parts.specs.declared.answer.Answer.{Answer}
+use borrow.Author.Tests.{eqb-false, lt-ltb}
 use Rattle.parts.specs.declared.part.Part.{Part}
-use Rattle.parts.specs.declared.refusal.Refusal.the-variants as R
-use Rattle.parts.specs.Numbers.{answerNumber}
 use Rattle.parts.specs.Table.{isSpi, partOf}
 use Rattle.trace.specs.declared.event.Event.{Event}
-use Rattle.trace.specs.declared.event.Event.the-variants.{SpiPowerOn, I2cPowerOn, PowerOff, Sample, Expected}
-use Rattle.trace.specs.declared.read.Read.{Read}
-use Rattle.trace.specs.declared.read.Read.the-variants.{Whole, Refused}
+use Rattle.trace.specs.declared.read.Read.the-variants.{Whole}
 use Rattle.trace.specs.Read.{readOf}
-use Rattle.spi.specs.Show as SpiShow
-use Rattle.i2c.specs.Sample as I2cSample
-use Rattle.chip.specs.declared.check.Verdict.{Verdict}
-use Rattle.chip.specs.declared.check.Verdict.the-variants.{Passed, Failed}
-use Rattle.chip.specs.declared.model.BusState.{BusState}
-use Rattle.chip.specs.declared.model.BusState.the-variants.{Unpowered, SpiOn, I2cOn}
 use Rattle.chip.specs.declared.model.Model.{Model}
-use Rattle.chip.specs.Check.{checkOf}
 use Rattle.chip.specs.Model.{unpowered}
-use Rattle.events.specs.Event.{Outcome, keeping, accepted, refused, expected, advanceOn, advanceOf}
+use Rattle.events.specs.Event.{Outcome}
 use Rattle.model.specs.declared.make.Made.{Made}
 use Rattle.model.specs.Make.{statusOf, makeOf}
-use Rattle.runs.specs.Event.{onRead, onVerdict, eventOf}
+use Rattle.runs.specs.Event.{eventOf}
+use Rattle.runs.proofs.EventLaws.{event-stays}
 use Rattle.ledger.specs.History.{Entry}
 use Rattle.ledger.specs.I2cAnswers.{pullAnswer, pulls, presentAnswer, i2cAnswer}
 use Rattle.promise.specs.Lists.{modelAfter, memoryAfter}
@@ -43,49 +31,8 @@ use Rattle.promise.proofs.I2cAnswers.{Fitting, list-fitting, list-prese
 
 -- ---- a refused event answers 2
 
--- accepted, or answered 2
-abbrev Two : Outcome → Type 0
-Two o = eqb (o .result .number) 0 ≡ false → o .result .answer ≡ 2
-
-module _ (s : Model) (m : List ℕ) where
-  taken : (a : ℕ) → true ≡ false → a ≡ 2
-  taken a h = absurd (false≢true (sym h))
-
-  expected-two : (a : Answer) (v : ℕ) → Two (keeping m (expected s a v))
-  expected-two a v = by (eqb v (answerNumber a))
-    where
-      by : (y : Bool) → Two (keeping m (cond y (accepted a s) (refused R.Unexpected s)))
-      by true = taken _
-      by false = λ h. refl
-
-  advance-two : (b : BusState) (p : Part) (e : Event) → Two (advanceOn b p s m e)
-  advance-two Unpowered p (SpiPowerOn x) = taken _
-  advance-two Unpowered p (I2cPowerOn x a) = taken _
-  advance-two Unpowered p PowerOff = λ h. refl
-  advance-two Unpowered p (Sample x) = λ h. refl
-  advance-two Unpowered p (Expected v) = λ h. refl
-  advance-two (SpiOn x) p (SpiPowerOn v) = λ h. refl
-  advance-two (SpiOn x) p (I2cPowerOn v a) = λ h. refl
-  advance-two (SpiOn x) p PowerOff = taken _
-  advance-two (SpiOn x) p (Sample v) = taken _
-  advance-two (SpiOn x) p (Expected v) = expected-two (SpiShow.answerAt (x .last) (x .shown)) v
-  advance-two (I2cOn x) p (SpiPowerOn v) = λ h. refl
-  advance-two (I2cOn x) p (I2cPowerOn v a) = λ h. refl
-  advance-two (I2cOn x) p PowerOff = taken _
-  advance-two (I2cOn x) p (Sample v) = taken _
-  advance-two (I2cOn x) p (Expected v) = expected-two (I2cSample.answerOf (x .pulling)) v
-
-  pub refused-two : (t : List ℕ) → Two (eventOf s m t)
-  unfolding eventOf advanceOf
-  refused-two t = by (checkOf s (length m))
-    where
-      by-read : (r : Read) → Two (onRead r s m)
-      by-read (Whole e n) = advance-two (s .bus) (partOf (s .part)) e
-      by-read (Refused r) = λ h. refl
-
-      by : (v : Verdict) → Two (onVerdict v s m t)
-      by Passed = by-read (readOf (partOf (s .part)) t)
-      by (Failed r) = λ h. refl
+pub refused-two : (s : Model) (m t : List ℕ) → eqb (eventOf s m t .result .number) 0 ≡ false → eventOf s m t .result .answer ≡ 2
+refused-two s m t h = event-stays s m t .refused-answer (eqb-false _ 0 h)
 
 -- ---- what a history says is never 1
 

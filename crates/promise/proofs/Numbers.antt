@@ -5,27 +5,23 @@ use Prim.Native.Nat.{ℕ, zero, suc}
 use mathlib.Core.Path.{_≡_, refl}
 use mathlib.Core.Bool.{Bool, true, false, cond}
 use mathlib.Core.List.{List}
+use native.Mathlib.Omega.{arith}
 use lib.Dec.{eqb, ltb}
 use lib.ListN.{length, drop, getD}
 use borrow.Author.Tests.{eqb-false, ne-eqb}
-use Rattle.parts.specs.declared.answer.Answer.{Answer}
 use Rattle.parts.specs.declared.part.Part.{Part}
 use Rattle.parts.specs.declared.refusal.Refusal.the-variants as R
-use Rattle.parts.specs.Numbers.{answerNumber, refusalNumber}
+use Rattle.parts.specs.Numbers.{refusalNumber}
 use Rattle.parts.specs.Table.{partOf}
 use Rattle.trace.specs.declared.event.Event.{Event}
-use Rattle.trace.specs.declared.event.Event.the-variants.{SpiPowerOn, I2cPowerOn, PowerOff, Sample, Expected}
 use Rattle.trace.specs.declared.read.Read.{Read}
 use Rattle.trace.specs.declared.read.Read.the-variants.{Whole, Refused}
 use Rattle.trace.specs.Event.{fieldsIn}
 use Rattle.trace.specs.Read as Trace
-use Rattle.spi.specs.Show as SpiShow
-use Rattle.i2c.specs.Sample as I2cSample
 use Rattle.chip.specs.declared.check.Verdict.the-variants.{Passed, Failed}
-use Rattle.chip.specs.declared.model.BusState.{BusState}
-use Rattle.chip.specs.declared.model.BusState.the-variants.{Unpowered, SpiOn, I2cOn}
 use Rattle.chip.specs.declared.model.Model.{Model}
-use Rattle.events.specs.Event.{keeping, accepted, refused, expected, advanceOn, advanceOf}
+use Rattle.events.specs.Event.{Outcome, keeping}
+use Rattle.events.proofs.Done.{Done, refused-with, accepted-as, done}
 use Rattle.runs.specs.Event as One
 use Rattle.runs.specs.Event.{onRead, eventOf}
 use Rattle.runs.specs.Run as Many
@@ -59,35 +55,14 @@ read-late p t =
 
 -- ---- an event that was read gives 0, 7, 8 or 9
 
-expected-late : (s : Model) (a : Answer) (v : ℕ) → Late (expected s a v .number)
-expected-late s a v = by (eqb v (answerNumber a))
-  where
-    by : (y : Bool) → Late (cond y (accepted a s) (refused R.Unexpected s) .number)
-    by true = (refl, refl)
-    by false = (refl, refl)
-
-advance-late : (b : BusState) (p : Part) (s : Model) (m : List ℕ) (e : Event) → Late (advanceOn b p s m e .result .number)
-advance-late Unpowered p s m (SpiPowerOn x) = (refl, refl)
-advance-late Unpowered p s m (I2cPowerOn x a) = (refl, refl)
-advance-late Unpowered p s m PowerOff = (refl, refl)
-advance-late Unpowered p s m (Sample x) = (refl, refl)
-advance-late Unpowered p s m (Expected v) = (refl, refl)
-advance-late (SpiOn x) p s m (SpiPowerOn v) = (refl, refl)
-advance-late (SpiOn x) p s m (I2cPowerOn v a) = (refl, refl)
-advance-late (SpiOn x) p s m PowerOff = (refl, refl)
-advance-late (SpiOn x) p s m (Sample v) = (refl, refl)
-advance-late (SpiOn x) p s m (Expected v) = expected-late s (SpiShow.answerAt (x .last) (x .shown)) v
-advance-late (I2cOn x) p s m (SpiPowerOn v) = (refl, refl)
-advance-late (I2cOn x) p s m (I2cPowerOn v a) = (refl, refl)
-advance-late (I2cOn x) p s m PowerOff = (refl, refl)
-advance-late (I2cOn x) p s m (Sample v) = (refl, refl)
-advance-late (I2cOn x) p s m (Expected v) = expected-late s (I2cSample.answerOf (x .pulling)) v
+done-late : {s : Model} {m : List ℕ} {o : Outcome} → Done s m o → Late (o .result .number)
+done-late (refused-with n l h) = (ne-eqb n 1 (λ e. omega arith), ne-eqb n 2 (λ e. omega arith))
+done-late (accepted-as a after left q r) = (refl, refl)
 
 -- ---- any bytes on a reached state
 
 on-read : (r : Read) (s : Model) (m : List ℕ) → LateRead r → Late (onRead r s m .result .number)
-unfolding advanceOf
-on-read (Whole e n) s m h = advance-late (s .bus) (partOf (s .part)) s m e
+on-read (Whole e n) s m h = done-late (done s m e)
 on-read (Refused r) s m h = h
 
 event-late : {s : Model} → Reached s → (m t : List ℕ) → Late (eventOf s m t .result .number)
