@@ -1,13 +1,13 @@
 -- For a state that the build's own calls reach from a making, refused or not, no event and no run gives number 1 or 2, and with a
 -- memory of the wrong length every event gives 3 and changes nothing. From the ranges of such states and the order of the tests.
 -- Assumes nothing.
-use Prim.Native.Nat.{ℕ, zero, suc}
+use Prim.Native.Nat.{ℕ}
 use mathlib.Core.Path.{_≡_, refl}
 use mathlib.Core.Bool.{Bool, true, false, cond}
 use mathlib.Core.List.{List}
 use native.Mathlib.Omega.{arith}
 use lib.Dec.{eqb, ltb}
-use lib.ListN.{length, drop, getD}
+use lib.ListN.{length, getD}
 use borrow.Author.Tests.{eqb-false, ne-eqb}
 use Rattle.parts.specs.declared.part.Part.{Part}
 use Rattle.parts.specs.declared.refusal.Refusal.the-variants as R
@@ -25,7 +25,8 @@ use Rattle.events.proofs.Done.{Done, refused-with, accepted-as, done}
 use Rattle.runs.specs.Event as One
 use Rattle.runs.specs.Event.{onRead, eventOf}
 use Rattle.runs.specs.Run as Many
-use Rattle.runs.specs.Run.{Run, stop, after, loopOf, runOf}
+use Rattle.runs.specs.Run.{loopOf, runOf}
+use Rattle.runs.proofs.RunLaws.{Stops, at-quota, at-end, at-refusal, loop-induction}
 use Rattle.promise.specs.Reached.{Reached, by-event}
 use Rattle.promise.proofs.Reached.{reached-check}
 
@@ -73,21 +74,14 @@ event-late {s} r m t = rw (reached-check r (length m)) (by (eqb (length m) (part
     by true = on-read (Trace.readOf (partOf (s .part)) t) s m (read-late (partOf (s .part)) t)
     by false = (refl, refl)
 
-loop-late : (quota : ℕ) (t : List ℕ) (s : Model) (m : List ℕ) → Reached s → Late (loopOf quota t s m .number)
-unfolding loopOf
-loop-late zero t s m r = (refl, refl)
-loop-late (suc quota) t s m r =
-    by (eqb (length t) 0) (eqb (eventOf s m t .result .number) 0)
-    (loop-late quota (drop (Trace.eventLength (getD t 0 0)) t) (eventOf s m t .result .model) (eventOf s m t .memory) (by-event m t r))
-  where
-    rest : Run
-    rest = loopOf quota (drop (Trace.eventLength (getD t 0 0)) t) (eventOf s m t .result .model) (eventOf s m t .memory)
+stops-late : (q n : ℕ) (t : List ℕ) (s : Model) (m : List ℕ) → Stops t s m q n → Reached s → Late n
+stops-late q n t s m at-quota r = (refl, refl)
+stops-late q n t s m (at-end z) r = (refl, refl)
+stops-late q n t s m (at-refusal some not-0) r = event-late r m t
 
-    by : (a b : Bool) → Late (rest .number)
-        → Late (cond a (stop 0 s m) (cond b (after (eventOf s m t .result .answer) (Trace.eventLength (getD t 0 0)) rest) (stop (eventOf s m t .result .number) s m)) .number)
-    by true b h = (refl, refl)
-    by false true h = h
-    by false false h = event-late r m t
+loop-late : (quota : ℕ) (t : List ℕ) (s : Model) (m : List ℕ) → Reached s → Late (loopOf quota t s m .number)
+loop-late =
+    loop-induction (λ q t s m r. Reached s → Late (r .number)) stops-late (λ q t s m some none r k h. k (by-event m t h))
 
 run-late : {s : Model} → Reached s → (quota : ℕ) (t m : List ℕ) → Late (runOf quota t s m .number)
 unfolding runOf

@@ -1,38 +1,27 @@
 -- States that the build's own calls reach from a making, refused or not, are in range, whatever numbers, bytes, quotas and
 -- memories are given: numbers 1 and 2 are never given for them. From the same fact for one event. Assumes nothing.
-use Prim.Native.Nat.{ℕ, zero, suc}
+use Prim.Native.Nat.{ℕ}
 use mathlib.Core.Path.{_≡_}
-use mathlib.Core.Bool.{Bool, true, false, cond}
+use mathlib.Core.Bool.{true, cond}
 use mathlib.Core.List.{List}
 use lib.Dec.{eqb}
-use lib.ListN.{length, drop, getD}
+use lib.ListN.{length}
 use Rattle.parts.specs.declared.refusal.Refusal.the-variants.{MemoryLength}
 use Rattle.parts.specs.Table.{partOf}
-use Rattle.trace.specs.Read.{eventLength}
 use Rattle.chip.specs.declared.check.Verdict.{Verdict}
 use Rattle.chip.specs.declared.check.Verdict.the-variants.{Passed, Failed}
 use Rattle.chip.specs.declared.model.Model.{Model}
 use Rattle.chip.specs.Check.{modelIn, busIn, checkOf}
-use Rattle.runs.specs.Event.{eventOf}
-use Rattle.runs.specs.Run.{Run, stop, after, loopOf, onVerdict, runOf}
+use Rattle.runs.specs.Run.{loopOf, onVerdict, runOf}
+use Rattle.runs.proofs.RunLaws.{loop-induction}
 use Rattle.promise.specs.Reached.{Reached, by-making, by-event, by-run}
 use Rattle.promise.proofs.Ranges.{InRange, made-in, event-in}
 
 loop-in : (quota : ℕ) (t : List ℕ) (s : Model) (m : List ℕ) → InRange s → InRange (loopOf quota t s m .model)
-unfolding loopOf
-loop-in zero t s m h = h
-loop-in (suc quota) t s m h =
-    by (eqb (length t) 0) (eqb (eventOf s m t .result .number) 0)
-    (loop-in quota (drop (eventLength (getD t 0 0)) t) (eventOf s m t .result .model) (eventOf s m t .memory) (event-in s m t h))
-  where
-    rest : Run
-    rest = loopOf quota (drop (eventLength (getD t 0 0)) t) (eventOf s m t .result .model) (eventOf s m t .memory)
-
-    by : (a b : Bool) → InRange (rest .model)
-        → InRange (cond a (stop 0 s m) (cond b (after (eventOf s m t .result .answer) (eventLength (getD t 0 0)) rest) (stop (eventOf s m t .result .number) s m)) .model)
-    by true b r = h
-    by false true r = r
-    by false false r = h
+loop-in =
+    loop-induction (λ q t s m r. InRange s → InRange (r .model))
+    (λ q n t s m e h. h)
+    (λ q t s m some none r k h. k (event-in s m t h))
 
 run-in : (quota : ℕ) (t : List ℕ) (s : Model) (m : List ℕ) → InRange s → InRange (runOf quota t s m .model)
 unfolding runOf

@@ -1,14 +1,14 @@
--- A run is the events that its trace splits into, up to where it stops; so demand 3 holds of runs. By induction on the quota, and on
--- the runs. Assumes nothing.
-use Prim.Native.Nat.{ℕ, zero, suc, _+_, _≤_, _<_}
+-- A run is the events that its trace splits into, up to where it stops; so demand 3 holds of runs. By what holds of every run, and
+-- by induction on the runs. Assumes nothing.
+use Prim.Native.Nat.{ℕ, suc, _+_, _≤_, _<_}
 use mathlib.Core.Path.{_≡_, refl, sym, ap, _∙_}
-use mathlib.Core.Bool.{Bool, true, false, cond}
+use mathlib.Core.Bool.{Bool, true, false}
 use mathlib.Core.List.{List, [], _∷_, _++_}
 use native.Mathlib.Omega.{arith}
-use lib.Dec.{eqb, ltb}
+use lib.Dec.{ltb}
 use lib.ListN.{length, take, drop, getD, replicate, length-take, length-append, take-append-drop, List·getD-append}
 use lib.Seq.{take-all}
-use borrow.Author.Tests.{eqb-true, eqb-false, ltb-true, ltb-false, le-ltb, ne-eqb}
+use borrow.Author.Tests.{eq-eqb, ltb-true, ltb-false, le-ltb, ne-eqb}
 use Rattle.parts.specs.declared.part.Part.{Part}
 use Rattle.parts.specs.Numbers.{refusalNumber}
 use Rattle.parts.specs.Table.{partOf}
@@ -22,7 +22,7 @@ use Rattle.chip.specs.Check.{checkOf}
 use Rattle.runs.specs.Event.{eventOf}
 use Rattle.runs.specs.Event as One
 use Rattle.runs.specs.Run.{Run, stop, after, onVerdict, loopOf, runOf}
-use Rattle.runs.proofs.RunLaws.{taken, loop-over, loop-refused, loop-accepted}
+use Rattle.runs.proofs.RunLaws.{taken, Stops, at-quota, at-end, at-refusal, loop-induction}
 use Rattle.promise.specs.Lists.{modelAfter, memoryAfter}
 use Rattle.promise.specs.Promise.{madeBy}
 use Rattle.promise.specs.RunEvents.{split, ByEvents, Call, ranBy, modelRun, memoryRun, eventsRun, RunsPromise}
@@ -107,27 +107,25 @@ module _ (es : List (List ℕ)) (s : Model) (m : List ℕ) where
       next : (c : ℕ) → getD (u ∷ es) (1 + c) [] ≡ getD es c []
       next c = let k : 1 + c ≡ suc c = omega arith in rw k
 
-loop-ran : (q : ℕ) (t : List ℕ) (s : Model) (m : List ℕ) → ByEvents (split q t) s m (loopOf q t s m)
-unfolding loopOf
-loop-ran zero t s m = ran-none [] s m refl
-loop-ran (suc q) t s m =
-    by (eqb (length t) 0) (eqb (eventOf s m t .result .number) 0) refl refl
-    (loop-ran q (drop (taken t) t) (eventOf s m t .result .model) (eventOf s m t .memory))
-  where
-    next : Run
-    next = loopOf q (drop (taken t) t) (eventOf s m t .result .model) (eventOf s m t .memory)
+abbrev Ran : ℕ → List ℕ → Model → List ℕ → Run → Type 0
+Ran q t s m r = ByEvents (split q t) s m r
 
-    by : (a b : Bool) → eqb (length t) 0 ≡ a → eqb (eventOf s m t .result .number) 0 ≡ b → ByEvents (split q (drop (taken t) t)) (eventOf s m t .result .model) (eventOf s m t .memory) next
-        → ByEvents (cond a [] (take (taken t) t ∷ split q (drop (taken t) t))) s m (loopOf (suc q) t s m)
-    by true b x y k = rw (loop-over t s m (suc q) (eqb-true _ _ x)) (ran-none [] s m refl)
-    by false true x y k =
-        let e = event-same s m t in
-        rw (loop-accepted t s m q (eqb-false _ _ x) (eqb-true _ _ y))
-        (rw e at (ran-more (split q (drop (taken t) t)) s m (take (taken t) t) (taken t) next (rw e (eqb-true _ _ y)) (rw e k)))
-    by false false x y k =
-        let z = eqb-false _ _ y in
-        rw (loop-refused t s m q (eqb-false _ _ x) z)
-        (ran-refused (take (taken t) t ∷ split q (drop (taken t) t)) s m _ z (rw (event-same s m t)))
+stops-ran : (q n : ℕ) (t : List ℕ) (s : Model) (m : List ℕ) → Stops t s m q n → Ran q t s m (stop n s m)
+stops-ran q n t s m at-quota = ran-none [] s m refl
+stops-ran q n t s m (at-end z) = rw (eq-eqb _ _ z) (ran-none [] s m refl)
+stops-ran q n t s m (at-refusal {q = j} some not-0) =
+    rw (ne-eqb _ _ some) (ran-refused (take (taken t) t ∷ split j (drop (taken t) t)) s m _ not-0 (rw (event-same s m t)))
+
+goes-on-ran : (q : ℕ) (t : List ℕ) (s : Model) (m : List ℕ) → (length t ≡ 0 → ⊥) → eventOf s m t .result .number ≡ 0 → (r : Run)
+    → Ran q (drop (taken t) t) (eventOf s m t .result .model) (eventOf s m t .memory) r
+    → Ran (suc q) t s m (after (eventOf s m t .result .answer) (taken t) r)
+goes-on-ran q t s m some none r k =
+    let e = event-same s m t in
+    rw (ne-eqb _ _ some)
+    (rw e at (ran-more (split q (drop (taken t) t)) s m (take (taken t) t) (taken t) r (rw e none) (rw e k)))
+
+loop-ran : (q : ℕ) (t : List ℕ) (s : Model) (m : List ℕ) → ByEvents (split q t) s m (loopOf q t s m)
+loop-ran = loop-induction Ran stops-ran goes-on-ran
 
 -- for any state, memory, trace and quota
 pub run-events : (q : ℕ) (t : List ℕ) (s : Model) (m : List ℕ) → ByEvents (split q t) s m (runOf q t s m)

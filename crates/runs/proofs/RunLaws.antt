@@ -1,13 +1,16 @@
--- The laws of a run, one event at a time: what is left of it after c events and o bytes. Assumes nothing.
+-- The laws of a run, one event at a time: what holds of every run, and what is left of one after c events and o bytes. Assumes
+-- nothing.
 use Prim.Native.Nat.{ℕ, zero, suc, _+_, _-_, _<_, _≤_}
 use mathlib.Core.Path.{_≡_, refl, sym, ap, _∙_}
+use mathlib.Core.Bool.{Bool, true, false}
 use mathlib.Core.List.{List}
 use native.Mathlib.Nat.{zero-add, add-zero, add-assoc}
 use native.Mathlib.Numerals.{add-one}
 use native.Mathlib.Omega.{arith}
+use lib.Dec.{eqb}
 use lib.ListN.{length, take, drop, set, getD, length-drop}
 use lib.Seq.{drop-drop, sets}
-use borrow.Author.Tests.{eq-eqb, ne-eqb}
+use borrow.Author.Tests.{eq-eqb, ne-eqb, eqb-true, eqb-false}
 use Rattle.parts.specs.declared.part.Part.{Part}
 use Rattle.parts.specs.declared.refusal.Refusal.{Refusal}
 use Rattle.parts.specs.Numbers.{refusalNumber}
@@ -51,6 +54,42 @@ module _ (t : List ℕ) (s : Model) (m : List ℕ) where
       ≡ after (eventOf s m t .result .answer) (taken t) (loopOf q (drop (taken t) t) (eventOf s m t .result .model) (eventOf s m t .memory))
   unfolding loopOf
   loop-accepted q h n = rw (ne-eqb _ _ h, eq-eqb _ _ n)
+
+-- ---- what holds of every run
+
+-- a run of q events stops at once, with the number n: no quota, no byte, or a refused event
+pub data Stops (t : List ℕ) (s : Model) (m : List ℕ) : ℕ → ℕ → Type 0 where
+  at-quota : Stops t s m 0 0
+  at-end : {q : ℕ} → length t ≡ 0 → Stops t s m (suc q) 0
+  at-refusal : {q : ℕ} → (length t ≡ 0 → ⊥) → (eventOf s m t .result .number ≡ 0 → ⊥) → Stops t s m (suc q) (eventOf s m t .result .number)
+
+-- what holds of a run that stops, and of a run with one accepted event more if it holds of the rest
+module _ (P : ℕ → List ℕ → Model → List ℕ → Run → Type 0)
+    (stops : (q n : ℕ) (t : List ℕ) (s : Model) (m : List ℕ) → Stops t s m q n → P q t s m (stop n s m))
+    (goes-on : (q : ℕ) (t : List ℕ) (s : Model) (m : List ℕ) → (length t ≡ 0 → ⊥) → eventOf s m t .result .number ≡ 0 → (r : Run)
+    → P q (drop (taken t) t) (eventOf s m t .result .model) (eventOf s m t .memory) r
+    → P (suc q) t s m (after (eventOf s m t .result .answer) (taken t) r)) where
+  pub loop-induction : (q : ℕ) (t : List ℕ) (s : Model) (m : List ℕ) → P q t s m (loopOf q t s m)
+  unfolding loopOf
+  loop-induction zero t s m = stops 0 0 t s m at-quota
+  loop-induction (suc q) t s m =
+      by (eqb (length t) 0) (eqb (eventOf s m t .result .number) 0) refl refl
+      (loop-induction q (drop (taken t) t) (eventOf s m t .result .model) (eventOf s m t .memory))
+    where
+      next : Run
+      next = loopOf q (drop (taken t) t) (eventOf s m t .result .model) (eventOf s m t .memory)
+
+      by : (a b : Bool) → eqb (length t) 0 ≡ a → eqb (eventOf s m t .result .number) 0 ≡ b
+          → P q (drop (taken t) t) (eventOf s m t .result .model) (eventOf s m t .memory) next → P (suc q) t s m (loopOf (suc q) t s m)
+      by true b x y k = let z = eqb-true _ _ x in rw (loop-over t s m (suc q) z) (stops (suc q) 0 t s m (at-end z))
+      by false true x y k =
+          let some = eqb-false _ _ x in
+          let none = eqb-true _ _ y in
+          rw (loop-accepted t s m q some none) (goes-on q t s m some none next k)
+      by false false x y k =
+          let some = eqb-false _ _ x in
+          let not-0 = eqb-false _ _ y in
+          rw (loop-refused t s m q some not-0) (stops (suc q) _ t s m (at-refusal some not-0))
 
 -- what is read there, of the part of the state
 pub read-on : (p : Part) (s : Model) (t : List ℕ) (o : ℕ) {r : Read} → p ≡ partOf (s .part) → readOf p (take (length t - o) (drop o t)) ≡ r
