@@ -2,29 +2,22 @@
 -- nothing.
 use Prim.Native.Nat.{ℕ, _+_}
 use mathlib.Core.Path.{_≡_, refl, sym, ap, _∙_}
-use mathlib.Core.Bool.{Bool, true, false}
+use mathlib.Core.Bool.{Bool, true}
 use mathlib.Core.List.{List}
-use mathlib.Core.Logic.{_⊎_, ⊎-elim}
-use native.Mathlib.Omega.{arith}
-use lib.Dec.{eqb}
-use lib.ListN.{length, drop, set, getD}
-use borrow.Author.Tests.{eq-eqb}
+use lib.ListN.{length, drop, set}
 use Rattle.parts.specs.declared.part.Part.{Part}
 use Rattle.parts.specs.Numbers.{answerNumber}
 use Rattle.parts.specs.Table.{partOf}
 use Rattle.serial.specs.Write.{applied}
 use Rattle.serial.proofs.WriteLaws.{length-applied}
-use Rattle.trace.specs.declared.event.Event.{Event}
-use Rattle.trace.specs.declared.event.Event.the-variants.{Sample, Expected}
-use Rattle.trace.specs.Sample.{staysFirst}
-use Rattle.trace.proofs.SampleLaws.{stays-which}
+use Rattle.trace.specs.declared.event.Event.the-variants.{Sample}
 use Rattle.transfer.specs.declared.buffer.AddressBuffer.{AddressBuffer}
 use Rattle.transfer.specs.declared.edge.Edge.{Edge}
 use Rattle.transfer.specs.declared.edge.Edge.the-variants.{Start, Stop, Rise, Fall, Quiet}
 use Rattle.transfer.specs.declared.levels.Levels.{Levels}
 use Rattle.transfer.specs.declared.phase.Phase.{Phase}
 use Rattle.i2c.specs.declared.sample.I2c.{I2c}
-use Rattle.transfer.specs.Edge.{lineOf, edgeOn, edgeOf}
+use Rattle.transfer.specs.Edge.{edgeOf}
 use Rattle.transfer.specs.Levels.{levelsOf}
 use Rattle.i2c.specs.Sample as I2cSample
 use Rattle.i2c.specs.Sample.{answerOf, stepOn, stepOf, Ready}
@@ -35,8 +28,9 @@ use Rattle.events.specs.Event.{Outcome, accepted, i2cSampled, advanceOf}
 use Rattle.chip.specs.Check.{Sound}
 use Rattle.chip.specs.Model.{modelOf}
 use Rattle.chip.proofs.CheckLaws.{sound-in, i2c-ready}
-use Rattle.samples.specs.Samples.{nextIs, firstDone, firstSample, i2cOf}
-use Rattle.samples.proofs.SamplesLaws.{End, first, Going, goes-on}
+use Rattle.samples.specs.Samples.{nextIs, firstSample, i2cOf}
+use Rattle.samples.proofs.SamplesLaws.{End, Going}
+use Rattle.samples.proofs.HeldLaws.{takes}
 
 -- the state of the part s with these levels, pull, buffer and phase
 abbrev pub i2cModel : Model → ℕ → Bool → AddressBuffer → Phase → Model
@@ -52,27 +46,19 @@ pub ready : (s : Model) (last : ℕ) (z : Bool) (b : AddressBuffer) (ph : Phase)
 ready s last z b ph m h =
     i2c-ready (i2cModel s last z b ph) (i2cOf (levelsOf last) z b ph) m refl (sound-in (i2cModel s last z b ph) m h)
 
--- nothing happens between two samples with the same levels
-same-levels : (z : Bool) (l : Levels) → edgeOf z l l ≡ Quiet
-same-levels z l = by (l .scl) (lineOf (l .sda) z)
-  where
-    by : (c k : Bool) → edgeOn c c k k ≡ Quiet
-    by true true = refl
-    by true false = refl
-    by false k = refl
-
--- what the sample x gives
+-- what the sample x gives, by its edge
 module _ (s : Model) (last : ℕ) (z : Bool) (b : AddressBuffer) (ph : Phase) (m : List ℕ) (x : ℕ) where
   abbrev step : Edge → I2cSample.Outcome
   step e = stepOn e (partOf (s .part)) (s .pins) (i2cOf (levelsOf last) z b ph) (levelsOf x) m
 
-  abbrev pub stepped : Edge → Outcome
+  abbrev stepped : Edge → Outcome
   stepped e =
       record {
-        result = accepted (step e .answer) (i2cModel s x (step e .i2c .pulling) (step e .i2c .buffer) (step e .i2c .phase));
+        result = accepted (answerOf (step e .i2c .pulling)) (i2cModel s x (step e .i2c .pulling) (step e .i2c .buffer) (step e .i2c .phase));
         memory = applied (step e .write) m;
       }
 
+  -- the levels are then those of x, and the answer is the pull then
   by-edge : (e : Edge) → i2cSampled (i2cModel s last z b ph) m (step e) ≡ stepped e
   by-edge Start = refl
   by-edge Stop = refl
@@ -80,29 +66,9 @@ module _ (s : Model) (last : ℕ) (z : Bool) (b : AddressBuffer) (ph : Phase) (m
   by-edge Fall = refl
   by-edge Quiet = refl
 
-  pub steps : (e : Edge) → edgeOf z (levelsOf last) (levelsOf x) ≡ e → advanceOf (i2cModel s last z b ph) m (Sample x) ≡ stepped e
+  steps : (e : Edge) → edgeOf z (levelsOf last) (levelsOf x) ≡ e → advanceOf (i2cModel s last z b ph) m (Sample x) ≡ stepped e
   unfolding advanceOf stepOf
   steps e k = rw k (by-edge e)
-
--- an expected answer that holds is like a sample with the same levels
-module _ (s : Model) (last : ℕ) (z : Bool) (b : AddressBuffer) (ph : Phase) (m : List ℕ) where
-  held : advanceOf (i2cModel s last z b ph) m (Expected (answerNumber (answerOf z))) ≡ stepped s last z b ph m last Quiet
-  unfolding advanceOf
-  held = rw (eq-eqb (answerNumber (answerOf z)) (answerNumber (answerOf z)) refl)
-
-  -- what the event at the front of u gives
-  pub first-steps : (u : List ℕ) → staysFirst 8 (answerNumber (answerOf z)) u ≡ true → (e : Edge) → edgeOf z (levelsOf last) (levelsOf (firstSample last u)) ≡ e
-      → firstDone (i2cModel s last z b ph) m u ≡ stepped s last z b ph m (firstSample last u) e
-  first-steps u h e k = by (eqb (getD u 0 0) 4) refl
-    where
-      by : (y : Bool) → eqb (getD u 0 0) 4 ≡ y → firstDone (i2cModel s last z b ph) m u ≡ stepped s last z b ph m (firstSample last u) e
-      by true q = rw q (steps s last z b ph m (getD u 1 0) e (rw q at k))
-      by false q =
-          let n : e ≡ Quiet = sym (rw q at k) ∙ same-levels z (levelsOf last) in
-          ⊎-elim
-          (λ x. let d : _≡_ {A = Event} (Expected (getD u 1 0)) (Sample (getD u 1 0)) = rw q at (x .1) in let o : _≡_ {A = ℕ} 0 1 = cc in absurd (omega arith))
-          (λ x. rw (x .1, q, n) held)
-          (stays-which 8 (answerNumber (answerOf z)) u h)
 
 -- ---- a turn of the loop
 
@@ -120,14 +86,6 @@ pub turned-length : {r : Edge} {p : Part} {pins : ℕ} {x : I2c} {l : Levels} {m
     → Turned r p pins x l m z' b' ph' m' → length m' ≡ length m
 turned-length {r} {p} {pins} {x} {l} {m} w = ap length (w .memory) ∙ length-applied (stepOn (w .edge) p pins x l m .write) m
 
--- the answer is the pull then
-pulled-then : (e : Edge) (p : Part) (pins : ℕ) (x : I2c) (l : Levels) (m : List ℕ) → answerOf (stepOn e p pins x l m .i2c .pulling) ≡ stepOn e p pins x l m .answer
-pulled-then Start p pins x l m = refl
-pulled-then Stop p pins x l m = refl
-pulled-then (Rise line) p pins x l m = refl
-pulled-then Fall p pins x l m = refl
-pulled-then Quiet p pins x l m = refl
-
 -- the event at offset o is taken as the sample x, and its answer noted
 module _ {t : List ℕ} {q : ℕ} {goal : End} {c o : ℕ} {buf : List ℕ} (s : Model) (last : ℕ) (z : Bool) (b : AddressBuffer) (ph : Phase) (m : List ℕ)
     (g : Going t q goal (i2cModel s last z b ph) c o m buf) (h : nextIs 8 (answerNumber (answerOf z)) q c (drop o t) ≡ true)
@@ -136,8 +94,6 @@ module _ {t : List ℕ} {q : ℕ} {goal : End} {c o : ℕ} {buf : List ℕ} (s :
   pub turn : (z' : Bool) (b' : AddressBuffer) (ph' : Phase) (m' buf' : List ℕ) → Turned r p (s .pins) (i2cOf (levelsOf last) z b ph) l m z' b' ph' m'
       → buf' ≡ set buf c (answerNumber (answerOf z')) → Going t q goal (i2cModel s x z' b' ph') (c + 1) (o + 2) m' buf'
   turn z' b' ph' m' buf' w noted =
-      let e = w .edge in
-      let k : edgeOf z (levelsOf last) (levelsOf (firstSample last (drop o t))) ≡ e = rw (eb, el, ex) at (sym er ∙ w .seen) in
-      let f = first 8 (answerNumber (answerOf z)) q c (drop o t) h in
-      rw (noted, w .memory, w .pulling, w .buffer, w .phase, ep, el, ex, pulled-then e (partOf (s .part)) (s .pins) (i2cOf (levelsOf last) z b ph) (levelsOf (firstSample last (drop o t))) m)
-      (goes-on g 8 (answerNumber (answerOf z)) (λ u. refl) h _ (first-steps s last z b ph m (drop o t) f e k))
+      let k : edgeOf z (levelsOf last) (levelsOf x) ≡ w .edge = rw (eb, el) at (sym er ∙ w .seen) in
+      rw (noted, w .memory, w .pulling, w .buffer, w .phase, ep, el)
+      (takes g 8 (answerNumber (answerOf z)) (λ u. refl) h last refl x ex _ (steps s last z b ph m x (w .edge) k))

@@ -1,2 +1,3 @@
 pub mod SamplesLaws
 pub mod NextLaws
+pub mod HeldLaws

@@ -4,8 +4,9 @@ use Prim.Native.Nat.{ℕ, _<_}
 use mathlib.Core.Path.{_≡_, refl, sym, _∙_}
 use mathlib.Core.Bool.{Bool, true, false, not}
 use mathlib.Core.List.{List}
-use mathlib.Core.Logic.{_⊎_, ⊎-elim}
+use mathlib.Core.Logic.{_⊎_, inl, inr, ⊎-elim}
 use native.Mathlib.Omega.{arith}
+use lib.ListN.{getD}
 use borrow.Author.Tests.{not-true, eq-eqb}
 use Rattle.parts.specs.declared.answer.Answer.{Answer}
 use Rattle.parts.specs.declared.answer.Answer.the-variants.{Low, High, HighZ}
@@ -15,6 +16,7 @@ use Rattle.parts.specs.Numbers.{answerNumber}
 use Rattle.parts.specs.Table.{isSpi, partOf}
 use Rattle.parts.proofs.Rows.{and-both}
 use Rattle.trace.specs.declared.event.Event.{Event}
+use Rattle.trace.specs.declared.event.Event.the-variants.{Sample, Expected}
 use Rattle.trace.specs.declared.read.Read.the-variants.{Whole}
 use Rattle.trace.specs.Event.{sampleLimit}
 use Rattle.trace.specs.Read.{readOf}
@@ -46,7 +48,7 @@ answer-small High = omega arith
 answer-small HighZ = omega arith
 
 -- the present answer of a bus under power
-abbrev present : BusState → ℕ
+abbrev pub present : BusState → ℕ
 present Unpowered = 2
 present (SpiOn x) = answerNumber (SpiShow.answerAt (x .last) (x .shown))
 present (I2cOn x) = answerNumber (I2cSample.answerOf (x .pulling))
@@ -55,6 +57,12 @@ present-small : (b : BusState) → present b < 3
 present-small Unpowered = omega arith
 present-small (SpiOn x) = answer-small (SpiShow.answerAt (x .last) (x .shown))
 present-small (I2cOn x) = answer-small (I2cSample.answerOf (x .pulling))
+
+-- which of the two the next event is
+pub next-which : (b : BusState) (t : List ℕ) → staysOn b t ≡ true → (firstEvent t ≡ Sample (getD t 1 0)) ⊎ (firstEvent t ≡ Expected (present b))
+next-which Unpowered t n = let k : _≡_ {A = ℕ} 0 1 = cc in absurd (omega arith)
+next-which (SpiOn x) t n = ⊎-elim (λ w. inl (w .1)) (λ w. inr (w .1)) (stays-which 32 (present (SpiOn x)) t n)
+next-which (I2cOn x) t n = ⊎-elim (λ w. inl (w .1)) (λ w. inr (w .1)) (stays-which 8 (present (I2cOn x)) t n)
 
 module _ (s : Model) (m : List ℕ) (sound : Sound s m) where
   -- under power the limit of the samples is that of the part
@@ -90,9 +98,9 @@ module _ (s : Model) (m : List ℕ) (sound : Sound s m) where
   unfolding advanceOf
   accepted-by Unpowered e t n = let k : _≡_ {A = ℕ} 0 1 = cc in absurd (omega arith)
   accepted-by (SpiOn x) e t n =
-      ⊎-elim (λ w. rw (w .1, e)) (λ w. rw (w .1, e, eq-eqb (present (SpiOn x)) (present (SpiOn x)) refl)) (stays-which 32 (present (SpiOn x)) t n)
+      ⊎-elim (λ (w : firstEvent t ≡ Sample (getD t 1 0)). rw (w, e)) (λ (w : firstEvent t ≡ Expected (present (SpiOn x))). rw (w, e, eq-eqb (present (SpiOn x)) (present (SpiOn x)) refl)) (next-which (SpiOn x) t n)
   accepted-by (I2cOn x) e t n =
-      ⊎-elim (λ w. rw (w .1, e)) (λ w. rw (w .1, e, eq-eqb (present (I2cOn x)) (present (I2cOn x)) refl)) (stays-which 8 (present (I2cOn x)) t n)
+      ⊎-elim (λ (w : firstEvent t ≡ Sample (getD t 1 0)). rw (w, e)) (λ (w : firstEvent t ≡ Expected (present (I2cOn x))). rw (w, e, eq-eqb (present (I2cOn x)) (present (I2cOn x)) refl)) (next-which (I2cOn x) t n)
 
   pub next-accepted : (t : List ℕ) → staysOn (s .bus) t ≡ true → firstDone s m t .result .number ≡ 0
   next-accepted t n = accepted-by (s .bus) refl t n

@@ -2,13 +2,9 @@
 -- nothing.
 use Prim.Native.Nat.{ℕ, _+_}
 use mathlib.Core.Path.{_≡_, refl, sym, ap, _∙_}
-use mathlib.Core.Bool.{Bool, true, false}
+use mathlib.Core.Bool.{Bool, true}
 use mathlib.Core.List.{List}
-use mathlib.Core.Logic.{_⊎_, ⊎-elim}
-use native.Mathlib.Omega.{arith}
-use lib.Dec.{eqb}
-use lib.ListN.{length, drop, set, getD}
-use borrow.Author.Tests.{eq-eqb}
+use lib.ListN.{length, drop, set}
 use Rattle.parts.specs.declared.answer.Answer.{Answer}
 use Rattle.parts.specs.declared.part.Part.{Part}
 use Rattle.parts.specs.declared.status.Status.{Status}
@@ -16,10 +12,7 @@ use Rattle.parts.specs.Numbers.{answerNumber}
 use Rattle.parts.specs.Table.{partOf}
 use Rattle.serial.specs.Write.{applied}
 use Rattle.serial.proofs.WriteLaws.{length-applied}
-use Rattle.trace.specs.declared.event.Event.{Event}
-use Rattle.trace.specs.declared.event.Event.the-variants.{Sample, Expected}
-use Rattle.trace.specs.Sample.{staysFirst}
-use Rattle.trace.proofs.SampleLaws.{stays-which}
+use Rattle.trace.specs.declared.event.Event.the-variants.{Sample}
 use Rattle.selection.specs.declared.edge.Edge.{Edge}
 use Rattle.selection.specs.declared.edge.Edge.the-variants.{Select, Deselect, Rise, Fall, Quiet}
 use Rattle.selection.specs.declared.levels.Levels.{Levels}
@@ -37,8 +30,9 @@ use Rattle.events.specs.Event.{Outcome, accepted, spiSampled, advanceOf}
 use Rattle.chip.specs.Check.{Sound}
 use Rattle.chip.specs.Model.{modelOf}
 use Rattle.chip.proofs.CheckLaws.{sound-in, spi-ready}
-use Rattle.samples.specs.Samples.{nextIs, firstDone, firstSample, spiOf}
-use Rattle.samples.proofs.SamplesLaws.{End, first, Going, goes-on}
+use Rattle.samples.specs.Samples.{nextIs, firstSample, spiOf}
+use Rattle.samples.proofs.SamplesLaws.{End, Going}
+use Rattle.samples.proofs.HeldLaws.{takes}
 
 -- the state of the part s with these levels, register and phase
 abbrev pub spiModel : Model → Status → ℕ → Bool → Answer → Phase → Model
@@ -54,28 +48,19 @@ pub ready : (s : Model) (st : Status) (last : ℕ) (z : Bool) (shown : Answer) (
 ready s st last z shown ph m h =
     spi-ready (spiModel s st last z shown ph) (spiOf (levelsOf last) z shown ph) m refl (sound-in (spiModel s st last z shown ph) m h)
 
--- nothing happens between two samples with the same levels
-same-levels : (l : Levels) → edgeOf l l ≡ Quiet
-same-levels l = by (l .cs) (l .hold) (l .sck) (l .si)
-  where
-    by : (c h k i : Bool) → edgeOf (record { cs = c; sck = k; si = i; wp = l .wp; hold = h }) (record { cs = c; sck = k; si = i; wp = l .wp; hold = h }) ≡ Quiet
-    by true h k i = refl
-    by false true true i = refl
-    by false true false i = refl
-    by false false k i = refl
-
--- what the sample x gives
+-- what the sample x gives, by its edge
 module _ (s : Model) (st : Status) (last : ℕ) (z : Bool) (shown : Answer) (ph : Phase) (m : List ℕ) (x : ℕ) where
   abbrev step : Edge → SpiSample.Outcome
   step e = stepOn e (partOf (s .part)) st (spiOf (levelsOf last) z shown ph) (levelsOf x) m
 
-  abbrev pub stepped : Edge → Outcome
+  abbrev stepped : Edge → Outcome
   stepped e =
       record {
-        result = accepted (step e .answer) (spiModel s (step e .status) x (step e .spi .asleep) (step e .spi .shown) (step e .spi .phase));
+        result = accepted (answerAt (levelsOf x) (step e .spi .shown)) (spiModel s (step e .status) x (step e .spi .asleep) (step e .spi .shown) (step e .spi .phase));
         memory = applied (step e .write) m;
       }
 
+  -- the levels are then those of x, and the answer is what is shown then
   by-edge : (e : Edge) → spiSampled (spiModel s st last z shown ph) m (step e) ≡ stepped e
   by-edge Select = refl
   by-edge Deselect = refl
@@ -83,29 +68,9 @@ module _ (s : Model) (st : Status) (last : ℕ) (z : Bool) (shown : Answer) (ph 
   by-edge Fall = refl
   by-edge Quiet = refl
 
-  pub steps : (e : Edge) → edgeOf (levelsOf last) (levelsOf x) ≡ e → advanceOf (spiModel s st last z shown ph) m (Sample x) ≡ stepped e
+  steps : (e : Edge) → edgeOf (levelsOf last) (levelsOf x) ≡ e → advanceOf (spiModel s st last z shown ph) m (Sample x) ≡ stepped e
   unfolding advanceOf stepOf
   steps e k = rw k (by-edge e)
-
--- an expected answer that holds is like a sample with the same levels
-module _ (s : Model) (st : Status) (last : ℕ) (z : Bool) (shown : Answer) (ph : Phase) (m : List ℕ) where
-  held : advanceOf (spiModel s st last z shown ph) m (Expected (answerNumber (answerAt (levelsOf last) shown))) ≡ stepped s st last z shown ph m last Quiet
-  unfolding advanceOf
-  held = rw (eq-eqb (answerNumber (answerAt (levelsOf last) shown)) (answerNumber (answerAt (levelsOf last) shown)) refl)
-
-  -- what the event at the front of u gives
-  pub first-steps : (u : List ℕ) → staysFirst 32 (answerNumber (answerAt (levelsOf last) shown)) u ≡ true → (e : Edge) → edgeOf (levelsOf last) (levelsOf (firstSample last u)) ≡ e
-      → firstDone (spiModel s st last z shown ph) m u ≡ stepped s st last z shown ph m (firstSample last u) e
-  first-steps u h e k = by (eqb (getD u 0 0) 4) refl
-    where
-      by : (y : Bool) → eqb (getD u 0 0) 4 ≡ y → firstDone (spiModel s st last z shown ph) m u ≡ stepped s st last z shown ph m (firstSample last u) e
-      by true q = rw q (steps s st last z shown ph m (getD u 1 0) e (rw q at k))
-      by false q =
-          let n : e ≡ Quiet = sym (rw q at k) ∙ same-levels (levelsOf last) in
-          ⊎-elim
-          (λ x. let d : _≡_ {A = Event} (Expected (getD u 1 0)) (Sample (getD u 1 0)) = rw q at (x .1) in let o : _≡_ {A = ℕ} 0 1 = cc in absurd (omega arith))
-          (λ x. rw (x .1, q, n) held)
-          (stays-which 32 (answerNumber (answerAt (levelsOf last) shown)) u h)
 
 -- ---- a turn of the loop
 
@@ -124,14 +89,6 @@ pub turned-length : {r : Edge} {p : Part} {st : Status} {x : Spi} {l : Levels} {
     → Turned r p st x l m st' z' shown' ph' m' → length m' ≡ length m
 turned-length {r} {p} {st} {x} {l} {m} w = ap length (w .memory) ∙ length-applied (stepOn (w .edge) p st x l m .write) m
 
--- the answer is what is shown then, at the levels now
-shown-then : (e : Edge) (p : Part) (st : Status) (x : Spi) (l : Levels) (m : List ℕ) → answerAt l (stepOn e p st x l m .spi .shown) ≡ stepOn e p st x l m .answer
-shown-then Select p st x l m = refl
-shown-then Deselect p st x l m = refl
-shown-then (Rise b) p st x l m = refl
-shown-then Fall p st x l m = refl
-shown-then Quiet p st x l m = refl
-
 -- the event at offset o is taken as the sample x, and its answer noted
 module _ {t : List ℕ} {q : ℕ} {goal : End} {c o : ℕ} {buf : List ℕ} (s : Model) (st : Status) (last : ℕ) (z : Bool) (shown : Answer) (ph : Phase) (m : List ℕ)
     (g : Going t q goal (spiModel s st last z shown ph) c o m buf)
@@ -142,8 +99,6 @@ module _ {t : List ℕ} {q : ℕ} {goal : End} {c o : ℕ} {buf : List ℕ} (s :
       → buf' ≡ set buf c (answerNumber (answerAt l shown'))
       → Going t q goal (spiModel s st' x z' shown' ph') (c + 1) (o + 2) m' buf'
   turn st' z' shown' ph' m' buf' w noted =
-      let e = w .edge in
-      let k : edgeOf (levelsOf last) (levelsOf (firstSample last (drop o t))) ≡ e = rw (eb, el, ex) at (sym er ∙ w .seen) in
-      let f = first 32 (answerNumber (answerAt (levelsOf last) shown)) q c (drop o t) h in
-      rw (noted, w .memory, w .status, w .asleep, w .shown, w .phase, ep, el, ex, shown-then e (partOf (s .part)) st (spiOf (levelsOf last) z shown ph) (levelsOf (firstSample last (drop o t))) m)
-      (goes-on g 32 (answerNumber (answerAt (levelsOf last) shown)) (λ u. refl) h _ (first-steps s st last z shown ph m (drop o t) f e k))
+      let k : edgeOf (levelsOf last) (levelsOf x) ≡ w .edge = rw (eb, el) at (sym er ∙ w .seen) in
+      rw (noted, w .memory, w .status, w .asleep, w .shown, w .phase, ep, el)
+      (takes g 32 (answerNumber (answerAt (levelsOf last) shown)) (λ u. refl) h last refl x ex _ (steps s st last z shown ph m x (w .edge) k))
