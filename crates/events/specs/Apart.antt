@@ -1,30 +1,30 @@
--- The events other than samples of a part under power. They store nothing.
+-- The events that are taken one by one: all but the samples of a part under power. They store nothing.
+use Prim.Native.Nat.{ℕ}
+use mathlib.Core.Path.{_≡_}
+use mathlib.Core.List.{List}
 use Rattle.parts.specs.declared.answer.Answer.{Answer}
-use Rattle.parts.specs.declared.part.Part.{Part}
-use Rattle.parts.specs.declared.refusal.Refusal.the-variants as R
 use Rattle.trace.specs.declared.event.Event.{Event}
-use Rattle.trace.specs.declared.event.Event.the-variants.{SpiPowerOn, I2cPowerOn, PowerOff, Sample, Expected}
+use Rattle.trace.specs.Sample.{NoSample}
 use Rattle.spi.specs.Show as SpiShow
 use Rattle.i2c.specs.Sample as I2cSample
 use Rattle.events.specs.declared.event.Answered.{Answered}
 use Rattle.chip.specs.declared.model.BusState.{BusState}
 use Rattle.chip.specs.declared.model.BusState.the-variants.{Unpowered, SpiOn, I2cOn}
 use Rattle.chip.specs.declared.model.Model.{Model}
-use Rattle.events.specs.Event.{refused, expected, poweredOff, onUnpowered}
+use Rattle.events.specs.Event.{keeping, advanceOf}
 
--- with the answer that the part gives at present. Of a sample this is not asked, and what it says of one is no rule: it takes part
--- in no contract of an entry point (`Apart` in proofs/ApartLaws.antt)
-abbrev pub underPower : Part → Model → Answer → Event → Answered
-underPower p s a (SpiPowerOn v) = refused R.Powered s
-underPower p s a (I2cPowerOn v start) = refused R.Powered s
-underPower p s a PowerOff = poweredOff p s
-underPower p s a (Sample v) = refused R.Unpowered s
-underPower p s a (Expected v) = expected s a v
+-- no sample, if there is power
+abbrev pub Apart : BusState → Event → Type 0
+Apart Unpowered e = Unit {0}
+Apart (SpiOn x) e = NoSample e
+Apart (I2cOn x) e = NoSample e
 
-abbrev pub apartOn : BusState → Part → Model → Event → Answered
-apartOn Unpowered p s e = onUnpowered s e
-apartOn (SpiOn x) p s e = underPower p s (SpiShow.answerAt (x .last) (x .shown)) e
-apartOn (I2cOn x) p s e = underPower p s (I2cSample.answerOf (x .pulling)) e
+-- there is power, and the part answers a at present
+abbrev pub Answering : BusState → Answer → Type 0
+Answering Unpowered a = ⊥
+Answering (SpiOn x) a = SpiShow.answerAt (x .last) (x .shown) ≡ a
+Answering (I2cOn x) a = I2cSample.answerOf (x .pulling) ≡ a
 
-abbrev pub apartOf : Part → Model → Event → Answered
-apartOf p s e = apartOn (s .bus) p s e
+-- the event gives r on any memory, and leaves the memory as it is
+abbrev pub Gives : Model → Event → Answered → Type 0
+Gives s e r = (m : List ℕ) → advanceOf s m e ≡ keeping m r

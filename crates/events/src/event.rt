@@ -1,7 +1,9 @@
 // The events other than samples under power, of a model that passed the tests of its state and memory.
 ghost use mathlib.Core.Path.{_≡_};
 ghost use Rattle.events.specs.Event.{accepted, refused, expected, poweredOn, poweredOff, onUnpowered};
-ghost use Rattle.events.specs.Apart.{underPower, apartOf};
+ghost use Rattle.parts.specs.Table.{partOf};
+ghost use Rattle.trace.specs.Sample.{NoSample};
+ghost use Rattle.events.specs.Apart.{Apart, Answering, Gives};
 use chip::model::BusState;
 use chip::model::Model;
 use parts::answer::Answer;
@@ -89,7 +91,8 @@ fn on_unpowered(model: Model, event: Event) -> Answered
 
 // An event other than a sample of a part under power, whose present answer this is.
 fn under_power(part: Part, model: Model, present: Answer, event: Event) -> Answered
-    ensures { λ r. ⌜ r ≡ underPower part model present event ⌝ }
+    requires { ⌜ (part ≡ partOf (model .part)) × Answering (model .bus) present × NoSample event ⌝ }
+    ensures { λ r. ⌜ Gives model event r ⌝ }
 {
     match event {
         Event::SpiPowerOn { sample: _ } => refuse(Refusal::Powered, model),
@@ -98,15 +101,16 @@ fn under_power(part: Part, model: Model, present: Answer, event: Event) -> Answe
             start: _,
         } => refuse(Refusal::Powered, model),
         Event::PowerOff => power_off(part, model),
-        // not asked: samples under power are taken in the loops of `spi_samples` and `i2c_samples`
+        // impossible: no sample is asked; those under power are taken in the loops of `spi_samples` and `i2c_samples`
         Event::Sample { sample: _ } => refuse(Refusal::Unpowered, model),
         Event::Expected { answer } => expect(model, present, answer),
     }
 }
 
-// An event that is no sample under power: it stores nothing, so it takes no memory.
+// An event that is no sample under power. It stores nothing, so it takes no memory, and gives the same on any.
 pub fn apart(part: Part, model: Model, event: Event) -> Answered
-    ensures { λ r. ⌜ r ≡ apartOf part model event ⌝ }
+    requires { ⌜ (part ≡ partOf (model .part)) × Apart (model .bus) event ⌝ }
+    ensures { λ r. ⌜ Gives model event r ⌝ }
 {
     let bus = model.bus;
     match bus {

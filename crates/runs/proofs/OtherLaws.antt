@@ -18,8 +18,8 @@ use Rattle.trace.specs.Read.{readOf}
 use Rattle.trace.proofs.ReadLaws.{taken-within}
 use Rattle.chip.specs.Check.{Sound}
 use Rattle.events.specs.declared.event.Answered.{Answered}
-use Rattle.events.specs.Apart.{apartOf}
 use Rattle.events.specs.Event.{advanceOf}
+use Rattle.events.proofs.ApartLaws.{apart-keeps}
 use Rattle.samples.specs.declared.reached.Reached.{Reached}
 use Rattle.steps.specs.declared.other.Other.{Other}
 use Rattle.steps.specs.Other.{other, otherOf, otherNoted}
@@ -46,7 +46,7 @@ module _ (p : Part) (t : List ℕ) (q : ℕ) (goal : Final) (c : ℕ) (s : Reach
 
   module _ (more : s .count < q) (inside : s .offset < length t) where
     went-by : (r : Read) → readOf p (drop (s .offset) t) ≡ r
-        → Went p t q goal (s .count) m (otherOf r p (s .model) (s .offset)) (otherNoted r p (s .model) (s .count) buf)
+        → Went p t q goal (s .count) m (otherOf r (s .model) m (s .offset)) (otherNoted r (s .model) m (s .count) buf)
     went-by (Refused r) k =
         record {
           sound = h .sound;
@@ -58,33 +58,33 @@ module _ (p : Part) (t : List ℕ) (q : ℕ) (goal : Final) (c : ℕ) (s : Reach
     went-by (Whole e n) k = by (eqb (a .number) 0) refl
       where
         a : Answered
-        a = apartOf p (s .model) e
+        a = advanceOf (s .model) m e .result
 
         read : readOf (partOf (s .model .part)) (drop (s .offset) t) ≡ Whole e n
         read = rw (h .part) at k
 
-        gave : (a ≡ advanceOf (s .model) m e .result) × (m ≡ advanceOf (s .model) m e .memory)
-        gave = here-apart p (s .model) m (drop (s .offset) t) e n (h .part) (h .sound) (h .over more) read a refl
+        kept : m ≡ advanceOf (s .model) m e .memory
+        kept = sym (apart-keeps (s .model) m e (rw k at (here-apart p t q goal c s m buf h more)))
 
         by : (y : Bool) → eqb (a .number) 0 ≡ y
             → Went p t q goal (s .count) m (cond y (other 0 (a .model) (s .offset + n)) (other (a .number) (s .model) (s .offset))) (cond y (set buf (s .count) (a .answer)) buf)
         by true z =
             record {
-              sound = moved-sound t q (s .count) (s .offset) (s .model) m buf (h .sound) more inside e n read a m (gave .0) (gave .1);
-              part = h .part ∙ ap partOf (sym (moved-part t q (s .count) (s .offset) (s .model) m buf (h .sound) more inside e n read a m (gave .0) (gave .1)));
+              sound = moved-sound t q (s .count) (s .offset) (s .model) m buf (h .sound) more inside e n read a m refl kept;
+              part = h .part ∙ ap partOf (sym (moved-part t q (s .count) (s .offset) (s .model) m buf (h .sound) more inside e n read a m refl kept));
               within = omega (arith, taken-within _ _ _ _ read, length-drop (s .offset) t);
               over = λ w. absurd (w refl);
-              left = λ w. sym (left-moved t q (s .count) (s .offset) (s .model) m buf (h .sound) more inside e n read a m (gave .0) (gave .1) (eqb-true _ _ z)) ∙ h .left;
+              left = λ w. sym (left-moved t q (s .count) (s .offset) (s .model) m buf (h .sound) more inside e n read a m refl kept (eqb-true _ _ z)) ∙ h .left;
             }
         by false z =
             record {
               sound = h .sound;
               part = h .part;
               within = h .within;
-              over = λ w. sym (left-unmoved t q (s .count) (s .offset) (s .model) m buf (h .sound) more inside e n read a m (gave .0) (gave .1) w) ∙ h .left;
+              over = λ w. sym (left-unmoved t q (s .count) (s .offset) (s .model) m buf (h .sound) more inside e n read a m refl kept w) ∙ h .left;
               left = λ w. absurd (eqb-false _ _ z w);
             }
 
-    pub went : (x : Other) (b : List ℕ) → x ≡ otherOf (readOf p (drop (s .offset) t)) p (s .model) (s .offset)
-        → b ≡ otherNoted (readOf p (drop (s .offset) t)) p (s .model) (s .count) buf → Went p t q goal (s .count) m x b
+    pub went : (x : Other) (b : List ℕ) → x ≡ otherOf (readOf p (drop (s .offset) t)) (s .model) m (s .offset)
+        → b ≡ otherNoted (readOf p (drop (s .offset) t)) (s .model) m (s .count) buf → Went p t q goal (s .count) m x b
     went x b ex eb = rw (ex, eb) (went-by (readOf p (drop (s .offset) t)) refl)

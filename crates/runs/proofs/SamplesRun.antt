@@ -10,19 +10,16 @@ use lib.ListN.{length, drop, length-drop}
 use lib.Seq.{drop-drop, sets}
 use Rattle.parts.specs.declared.part.Part.{Part}
 use Rattle.parts.specs.Table.{partOf}
-use Rattle.trace.specs.declared.event.Event.{Event}
-use Rattle.trace.specs.declared.read.Read.the-variants.{Whole}
+use Rattle.trace.specs.declared.read.Read.{Read}
+use Rattle.trace.specs.declared.read.Read.the-variants.{Whole, Refused}
 use Rattle.trace.specs.Read.{readOf}
 use Rattle.trace.specs.Sample.{firstEvent}
 use Rattle.trace.proofs.ReadLaws.{taken-within}
-use Rattle.events.specs.declared.event.Answered.{Answered}
 use Rattle.chip.specs.declared.model.Model.{Model}
-use Rattle.events.specs.Apart.{apartOf}
-use Rattle.events.specs.Event.{advanceOf}
 use Rattle.chip.specs.Check.{Sound}
-use Rattle.events.proofs.ApartLaws.{apart-advance}
 use Rattle.events.proofs.Stays.{stays}
 use Rattle.samples.specs.declared.reached.Reached.{Reached}
+use Rattle.steps.specs.Other.{ReadApart}
 use Rattle.samples.specs.Samples.{Samples, none, one, staysOn, firstDone, samplesOf, reachedBy}
 use Rattle.samples.proofs.NextLaws.{next-read, next-apart, next-accepted}
 use Rattle.samples.proofs.SamplesLaws.{samples-zero, samples-none, samples-one}
@@ -149,9 +146,11 @@ module _ (p : Part) (t : List ℕ) (q c o : ℕ) (s : Model) (m buf : List ℕ) 
         left = onward-left;
       })
 
--- an event there is no sample under power, and leaves the memory
-pub here-apart : (p : Part) (s : Model) (m t : List ℕ) (e : Event) (n : ℕ) → p ≡ partOf (s .part) → Sound s m → staysOn (s .bus) t ≡ false
-    → readOf (partOf (s .part)) t ≡ Whole e n → (a : Answered) → a ≡ apartOf p s e → (a ≡ advanceOf s m e .result) × (m ≡ advanceOf s m e .memory)
-here-apart p s m t e n k sound over read a x =
-    let h = apart-advance s m e (next-apart s m sound t e n over read) in
-    (x ∙ rw (k, h), rw h)
+-- an event there is no sample under power
+pub here-apart : (p : Part) (t : List ℕ) (q : ℕ) (goal : Final) (c : ℕ) (r : Reached) (m buf : List ℕ) → Here p t q goal c r m buf → r .count < q
+    → ReadApart (readOf p (drop (r .offset) t)) (r .model .bus)
+here-apart p t q goal c r m buf h more = by (readOf p (drop (r .offset) t)) refl
+  where
+    by : (x : Read) → readOf p (drop (r .offset) t) ≡ x → ReadApart x (r .model .bus)
+    by (Whole e n) k = next-apart (r .model) m (h .sound) (drop (r .offset) t) e n (h .over more) (rw (h .part) at k)
+    by (Refused f) k = tt

@@ -27,9 +27,9 @@ use Rattle.i2c.specs.Sample as I2cSample
 use Rattle.chip.specs.declared.model.BusState.{BusState}
 use Rattle.chip.specs.declared.model.BusState.the-variants.{Unpowered, SpiOn, I2cOn}
 use Rattle.chip.specs.declared.model.Model.{Model}
+use Rattle.events.specs.Apart.{Apart}
 use Rattle.events.specs.Event.{advanceOf}
 use Rattle.chip.specs.Check.{Sound}
-use Rattle.events.proofs.ApartLaws.{Apart}
 use Rattle.chip.proofs.CheckLaws.{sound-in}
 use Rattle.samples.specs.Samples.{staysOn, firstDone}
 

@@ -5,12 +5,13 @@ use mathlib.Core.Bool.{cond}
 use mathlib.Core.List.{List}
 use lib.Dec.{eqb}
 use lib.ListN.{set}
-use Rattle.parts.specs.declared.part.Part.{Part}
 use Rattle.parts.specs.Numbers.{refusalNumber}
 use Rattle.trace.specs.declared.read.Read.{Read}
 use Rattle.trace.specs.declared.read.Read.the-variants.{Whole, Refused}
 use Rattle.events.specs.declared.event.Answered.{Answered}
-use Rattle.events.specs.Apart.{apartOf}
+use Rattle.events.specs.Apart.{Apart}
+use Rattle.events.specs.Event.{advanceOf}
+use Rattle.chip.specs.declared.model.BusState.{BusState}
 use Rattle.chip.specs.declared.model.Model.{Model}
 use Rattle.steps.specs.declared.other.Other.{Other}
 
@@ -28,14 +29,19 @@ abbrev pub otherBy : Answered → ℕ → Model → ℕ → Other
 otherBy a n s o = cond (eqb (a .number) 0) (other 0 (a .model) (o + n)) (other (a .number) s o)
 
 -- by what was read; the reader's refusal leaves with its offset
-abbrev pub otherOf : Read → Part → Model → ℕ → Other
-otherOf (Whole e n) p s o = otherBy (apartOf p s e) n s o
-otherOf (Refused r) p s o = other (refusalNumber r) s o
+abbrev pub otherOf : Read → Model → List ℕ → ℕ → Other
+otherOf (Whole e n) s m o = otherBy (advanceOf s m e .result) n s o
+otherOf (Refused r) s m o = other (refusalNumber r) s o
 
 -- its answer is noted at c if it is accepted
 abbrev pub notedBy : Answered → ℕ → List ℕ → List ℕ
 notedBy a c buf = cond (eqb (a .number) 0) (set buf c (a .answer)) buf
 
-abbrev pub otherNoted : Read → Part → Model → ℕ → List ℕ → List ℕ
-otherNoted (Whole e n) p s c buf = notedBy (apartOf p s e) c buf
-otherNoted (Refused r) p s c buf = buf
+abbrev pub otherNoted : Read → Model → List ℕ → ℕ → List ℕ → List ℕ
+otherNoted (Whole e n) s m c buf = notedBy (advanceOf s m e .result) c buf
+otherNoted (Refused r) s m c buf = buf
+
+-- what was read is no sample, if there is power
+abbrev pub ReadApart : Read → BusState → Type 0
+ReadApart (Whole e n) b = Apart b e
+ReadApart (Refused r) b = Unit {0}

@@ -1,9 +1,11 @@
 // One event of a run that is no sample under power.
 ghost use mathlib.Core.Path.{_≡_};
-ghost use Prim.Native.Nat.{_≤_};
+ghost use Prim.Native.Nat.{ℕ, _≤_};
+ghost use mathlib.Core.List.{List};
 ghost use lib.ListN.{length, drop};
+ghost use Rattle.parts.specs.Table.{partOf};
 ghost use Rattle.trace.specs.Read.{readOf};
-ghost use Rattle.steps.specs.Other.{other, stoppedBy, otherOf, otherNoted};
+ghost use Rattle.steps.specs.Other.{other, stoppedBy, otherOf, otherNoted, ReadApart};
 use chip::model::Model;
 use parts::part::Part;
 use trace::read::Read;
@@ -35,7 +37,7 @@ fn stopped(read: Read, model: Model, offset: usize) -> Other
     }
 }
 
-// The event at offset, and its answer noted at count if it is accepted.
+// The event at offset, which is no sample under power, and its answer noted at count if it is accepted: the same on any memory m.
 pub fn one_other(
     part: Part,
     model: Model,
@@ -44,9 +46,9 @@ pub fn one_other(
     offset: usize,
     answers: &mut [u8],
 ) -> Other
-    requires { ⌜ offset ≤ length (now trace) ⌝ }
-    ensures { λ r. ⌜ r ≡ otherOf (readOf part (drop offset (now (trace .entry)))) part model offset ⌝ }
-    ensures { λ r. ⌜ now (answers .exit) ≡ otherNoted (readOf part (drop offset (now (trace .entry)))) part model count (now (answers .entry)) ⌝ }
+    requires { ⌜ (part ≡ partOf (model .part)) × (offset ≤ length (now trace)) × ReadApart (readOf part (drop offset (now trace))) (model .bus) ⌝ }
+    ensures { λ r. ⌜ ((m : List ℕ) → r ≡ otherOf (readOf part (drop offset (now (trace .entry)))) model m offset) ⌝ }
+    ensures { λ r. ⌜ ((m : List ℕ) → now (answers .exit) ≡ otherNoted (readOf part (drop offset (now (trace .entry)))) model m count (now (answers .entry))) ⌝ }
 {
     let read = trace::read::read_event(part, &trace[offset..]);
     let Read::Whole { event, taken } = read else {

@@ -15,7 +15,7 @@ use Rattle.trace.specs.declared.event.Event.the-variants.{SpiPowerOn, I2
 use Rattle.trace.specs.declared.read.Read.the-variants.{Whole}
 use Rattle.trace.specs.Event.{sampleLimit, fieldsIn}
 use Rattle.trace.specs.Read.{startAddress, readOf}
-use Rattle.trace.specs.Sample.{sampleFirst, expectedFirst, staysFirst, firstEvent}
+use Rattle.trace.specs.Sample.{sampleFirst, expectedFirst, staysFirst, firstEvent, NoSample}
 use Rattle.trace.proofs.ReadLaws.{passed, reads-whole}
 
 -- the three tests
@@ -89,14 +89,6 @@ module _ (limit a : ℕ) (t : List ℕ) where
 pub stays-read : (p : Part) (t : List ℕ) (a : ℕ) → a < 3 → staysFirst (sampleLimit (p .bus)) a t ≡ true → readOf p t ≡ Whole (firstEvent t) 2
 stays-read p t a l h =
     ⊎-elim (λ x. rw (x .1) (sample-read p t (x .0))) (λ x. rw (x .1) (expected-at p t a l (x .0))) (stays-which (sampleLimit (p .bus)) a t h)
-
--- an event that is no sample
-abbrev pub NoSample : Event → Type 0
-NoSample (SpiPowerOn x) = Unit {0}
-NoSample (I2cPowerOn x a) = Unit {0}
-NoSample PowerOff = Unit {0}
-NoSample (Sample x) = ⊥
-NoSample (Expected v) = Unit {0}
 
 -- by the tests for the kinds, which choose the event: a sample would be in range
 no-sample-by : (p : Part) (a b c d : Bool) (x y : ℕ) → (d ≡ true → ltb x (sampleLimit (p .bus)) ≡ true → ⊥)

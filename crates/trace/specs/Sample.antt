@@ -1,11 +1,11 @@
--- Whether the next event is a sample in range, or an expected answer that holds; and what it is.
+-- Whether the next event is a sample in range, or an expected answer that holds; what it is; and an event that is no sample.
 use Prim.Native.Nat.{ℕ}
 use mathlib.Core.Bool.{Bool, true, false, cond}
 use mathlib.Core.List.{List}
 use lib.Dec.{eqb, ltb}
 use lib.ListN.{length, getD}
 use Rattle.trace.specs.declared.event.Event.{Event}
-use Rattle.trace.specs.declared.event.Event.the-variants.{Sample, Expected}
+use Rattle.trace.specs.declared.event.Event.the-variants.{SpiPowerOn, I2cPowerOn, PowerOff, Sample, Expected}
 
 -- kind 04 and a sample below the limit of the bus
 abbrev pub sampleFirst : ℕ → List ℕ → Bool
@@ -22,3 +22,11 @@ staysFirst limit answer t = cond (sampleFirst limit t) true (expectedFirst answe
 -- that event
 abbrev pub firstEvent : List ℕ → Event
 firstEvent t = cond (eqb (getD t 0 0) 4) (Sample (getD t 1 0)) (Expected (getD t 1 0))
+
+-- an event that is no sample
+abbrev pub NoSample : Event → Type 0
+NoSample (SpiPowerOn x) = Unit {0}
+NoSample (I2cPowerOn x a) = Unit {0}
+NoSample PowerOff = Unit {0}
+NoSample (Sample x) = ⊥
+NoSample (Expected v) = Unit {0}

@@ -13,7 +13,7 @@ returns : tie.Need-returns
 returns c =
     let a = c .before .before .before .before .before .before .before .args in
     let read = rw (tail-part (a .trace .now) (a .offset)) at (sym (c .before .before .before .read-event .ensures) ∙ c .before .enum-told .given .1) in
-    (simp (c .stopped .ensures, c .before .enum-told .given .1, read), simp read)
+    (λ m. simp (c .stopped .ensures, c .before .enum-told .given .1, read), λ m. simp read)
 
 add-past : tie.Need-add-past
 add-past c =
@@ -21,7 +21,16 @@ add-past c =
     let start = called .before .before .before .before in
     let a = start .args in
     let read = rw (tail-part (a .trace .now) (a .offset)) at (sym (called .read-event .ensures) ∙ c .before .read .given .1) in
-    omega (arith, taken-within _ _ _ _ read, length-drop (a .offset) (a .trace .now), start .pre, start .good .1 .1 .0 .0)
+    omega (arith, taken-within _ _ _ _ read, length-drop (a .offset) (a .trace .now), start .pre .1, start .good .1 .1 .0 .0)
+
+-- what was read is no sample under power
+apart-requires : tie.Need-apart-requires
+apart-requires c κs =
+    let called = c .before .before .before in
+    let start = called .before .before .before .before in
+    let a = start .args in
+    let read = rw (tail-part (a .trace .now) (a .offset)) at (sym (called .read-event .ensures) ∙ c .before .read .given .1) in
+    (start .pre .0, rw read at (start .pre .2))
 
 returns-2 : tie.Need-returns-2
 returns-2 c =
@@ -30,7 +39,7 @@ returns-2 c =
     let read = rw (tail-part (a .trace .now) (a .offset)) at (sym (called .read-event .ensures) ∙ c .before .before .before .before .before .read .given .1) in
     let n = ne-eqb _ _ (c .before .if1 .taken) in
     let e = c .before .before .before .apart .ensures in
-    (simp (c .ended .ensures, read, ← e, n), simp (read, ← e, n))
+    (λ m. simp (c .ended .ensures, read, e m, n), λ m. simp (read, e m, n))
 
 returns-3 : tie.Need-returns-3
 returns-3 c =
@@ -39,7 +48,7 @@ returns-3 c =
     let read = rw (tail-part (a .trace .now) (a .offset)) at (sym (called .read-event .ensures) ∙ c .before .before .before .before .before .before .before .before .before .before .read .given .1) in
     let n = eq-eqb _ _ (c .before .before .before .before .before .before .if1 .left) in
     let e = c .before .before .before .before .before .before .before .before .apart .ensures in
-    (simp (c .ended2 .ensures, read, ← e, n), simp (c .before .before .before .before .note .ensures, read, ← e, n))
+    (λ m. simp (c .ended2 .ensures, read, e m, n), λ m. simp (c .before .before .before .before .note .ensures, read, e m, n))
 
 pub one-other-spec : {M : Type 1} → statement M
 one-other-spec =
@@ -54,7 +63,7 @@ one-other-spec =
     (λ c κs. search needs)
     returns
     add-past
-    (λ c κs. search needs)
+    apart-requires
     (λ c κs. search needs)
     returns-2
     (λ c κs. search needs)
