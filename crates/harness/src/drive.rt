@@ -18,10 +18,10 @@ pub extern "C" fn sildrokk_replay(
     answers: &mut [u8],
     result: &mut [u8],
 ) -> u8
-    ensures { λ r. ⌜ r ≡ madeRun part pins bits quota (now (trace .entry)) (now (memory .entry)) .number ⌝ }
-    ensures { λ r. ⌜ now (memory .exit) ≡ madeRun part pins bits quota (now (trace .entry)) (now (memory .entry)) .memory ⌝ }
-    ensures { λ r. ⌜ now (answers .exit) ≡ sets (now (answers .entry)) 0 (madeRun part pins bits quota (now (trace .entry)) (now (memory .entry)) .answers) ⌝ }
-    ensures { λ r. ⌜ now (result .exit) ≡ resultIn (madeRun part pins bits quota (now (trace .entry)) (now (memory .entry)) .count) (madeRun part pins bits quota (now (trace .entry)) (now (memory .entry)) .offset) (now (result .entry)) ⌝ }
+    ensures number { λ r. ⌜ r ≡ madeRun part pins bits quota (now (trace .entry)) (now (memory .entry)) .number ⌝ }
+    ensures memory { λ r. ⌜ now (memory .exit) ≡ madeRun part pins bits quota (now (trace .entry)) (now (memory .entry)) .memory ⌝ }
+    ensures answers { λ r. ⌜ now (answers .exit) ≡ sets (now (answers .entry)) 0 (madeRun part pins bits quota (now (trace .entry)) (now (memory .entry)) .answers) ⌝ }
+    ensures result { λ r. ⌜ now (result .exit) ≡ resultIn (madeRun part pins bits quota (now (trace .entry)) (now (memory .entry)) .count) (madeRun part pins bits quota (now (trace .entry)) (now (memory .entry)) .offset) (now (result .entry)) ⌝ }
 {
     let ran = model::made::replay_made(part, pins, bits, trace, quota as usize, memory, answers);
     crate::result::write_result(result, ran.count as u64, ran.offset as u64);
@@ -39,9 +39,9 @@ pub extern "C" fn sildrokk_run(
     memory: &mut [u8],
     result: &mut [u8],
 ) -> u8
-    ensures { λ r. ⌜ r ≡ madeRun part pins bits quota (now (trace .entry)) (now (memory .entry)) .number ⌝ }
-    ensures { λ r. ⌜ now (memory .exit) ≡ madeRun part pins bits quota (now (trace .entry)) (now (memory .entry)) .memory ⌝ }
-    ensures { λ r. ⌜ now (result .exit) ≡ resultIn (madeRun part pins bits quota (now (trace .entry)) (now (memory .entry)) .count) (madeRun part pins bits quota (now (trace .entry)) (now (memory .entry)) .offset) (now (result .entry)) ⌝ }
+    ensures number { λ r. ⌜ r ≡ madeRun part pins bits quota (now (trace .entry)) (now (memory .entry)) .number ⌝ }
+    ensures memory { λ r. ⌜ now (memory .exit) ≡ madeRun part pins bits quota (now (trace .entry)) (now (memory .entry)) .memory ⌝ }
+    ensures result { λ r. ⌜ now (result .exit) ≡ resultIn (madeRun part pins bits quota (now (trace .entry)) (now (memory .entry)) .count) (madeRun part pins bits quota (now (trace .entry)) (now (memory .entry)) .offset) (now (result .entry)) ⌝ }
 {
     let mut answers = [0u8; 1];
     sildrokk_replay(part, pins, bits, quota, trace, memory, &mut answers, result)

@@ -11,8 +11,8 @@ use parts::refusal::Refusal;
 // event is cut short.
 fn checked_event(model: Model, bytes: &[u8], memory: &mut [u8]) -> Answered
     requires { ⌜ Sound model (now memory) ⌝ }
-    ensures { λ r. ⌜ r ≡ checkedEvent model (now (memory .entry)) (now (bytes .entry)) .result ⌝ }
-    ensures { λ r. ⌜ now (memory .exit) ≡ checkedEvent model (now (memory .entry)) (now (bytes .entry)) .memory ⌝ }
+    ensures answered { λ r. ⌜ r ≡ checkedEvent model (now (memory .entry)) (now (bytes .entry)) .result ⌝ }
+    ensures memory { λ r. ⌜ now (memory .exit) ≡ checkedEvent model (now (memory .entry)) (now (bytes .entry)) .memory ⌝ }
 {
     if bytes.len() == 0 {
         return events::event::refuse(Refusal::Truncated, model);
@@ -29,8 +29,8 @@ fn checked_event(model: Model, bytes: &[u8], memory: &mut [u8]) -> Answered
 
 // The event at the front of bytes: number or 0, answer, next state; the first of 1 to 9 that holds.
 pub fn event(model: Model, bytes: &[u8], memory: &mut [u8]) -> Answered
-    ensures { λ r. ⌜ r ≡ eventOf model (now (memory .entry)) (now (bytes .entry)) .result ⌝ }
-    ensures { λ r. ⌜ now (memory .exit) ≡ eventOf model (now (memory .entry)) (now (bytes .entry)) .memory ⌝ }
+    ensures answered { λ r. ⌜ r ≡ eventOf model (now (memory .entry)) (now (bytes .entry)) .result ⌝ }
+    ensures memory { λ r. ⌜ now (memory .exit) ≡ eventOf model (now (memory .entry)) (now (bytes .entry)) .memory ⌝ }
 {
     match chip::check::check(model, memory.len()) {
         Verdict::Passed => checked_event(model, bytes, memory),

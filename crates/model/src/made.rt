@@ -15,9 +15,9 @@ pub fn replay_made(
     memory: &mut [u8],
     answers: &mut [u8],
 ) -> Ran
-    ensures { λ r. ⌜ r ≡ ranOf (madeRun part pins bits quota (now (trace .entry)) (now (memory .entry))) ⌝ }
-    ensures { λ r. ⌜ now (memory .exit) ≡ madeRun part pins bits quota (now (trace .entry)) (now (memory .entry)) .memory ⌝ }
-    ensures { λ r. ⌜ now (answers .exit) ≡ sets (now (answers .entry)) 0 (madeRun part pins bits quota (now (trace .entry)) (now (memory .entry)) .answers) ⌝ }
+    ensures ran { λ r. ⌜ r ≡ ranOf (madeRun part pins bits quota (now (trace .entry)) (now (memory .entry))) ⌝ }
+    ensures memory { λ r. ⌜ now (memory .exit) ≡ madeRun part pins bits quota (now (trace .entry)) (now (memory .entry)) .memory ⌝ }
+    ensures answers { λ r. ⌜ now (answers .exit) ≡ sets (now (answers .entry)) 0 (madeRun part pins bits quota (now (trace .entry)) (now (memory .entry)) .answers) ⌝ }
 {
     let made = crate::make::make(part, pins, bits);
     let start = made.model;

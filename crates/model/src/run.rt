@@ -14,9 +14,9 @@ pub fn replay(
     memory: &mut [u8],
     answers: &mut [u8],
 ) -> Ran
-    ensures { λ r. ⌜ r ≡ ranOf (runOf quota (now (trace .entry)) model (now (memory .entry))) ⌝ }
-    ensures { λ r. ⌜ now (memory .exit) ≡ runOf quota (now (trace .entry)) model (now (memory .entry)) .memory ⌝ }
-    ensures { λ r. ⌜ now (answers .exit) ≡ sets (now (answers .entry)) 0 (runOf quota (now (trace .entry)) model (now (memory .entry)) .answers) ⌝ }
+    ensures ran { λ r. ⌜ r ≡ ranOf (runOf quota (now (trace .entry)) model (now (memory .entry))) ⌝ }
+    ensures memory { λ r. ⌜ now (memory .exit) ≡ runOf quota (now (trace .entry)) model (now (memory .entry)) .memory ⌝ }
+    ensures answers { λ r. ⌜ now (answers .exit) ≡ sets (now (answers .entry)) 0 (runOf quota (now (trace .entry)) model (now (memory .entry)) .answers) ⌝ }
 {
     match chip::check::check(model, memory.len()) {
         Verdict::Passed => runs::run::replay_checked(model, trace, quota, memory, answers),
@@ -26,8 +26,8 @@ pub fn replay(
 
 // At most quota events from the front of a trace.
 pub fn run(model: Model, trace: &[u8], quota: usize, memory: &mut [u8]) -> Ran
-    ensures { λ r. ⌜ r ≡ ranOf (runOf quota (now (trace .entry)) model (now (memory .entry))) ⌝ }
-    ensures { λ r. ⌜ now (memory .exit) ≡ runOf quota (now (trace .entry)) model (now (memory .entry)) .memory ⌝ }
+    ensures ran { λ r. ⌜ r ≡ ranOf (runOf quota (now (trace .entry)) model (now (memory .entry))) ⌝ }
+    ensures memory { λ r. ⌜ now (memory .exit) ≡ runOf quota (now (trace .entry)) model (now (memory .entry)) .memory ⌝ }
 {
     let mut answers = [0u8; 1];
     replay(model, trace, quota, memory, &mut answers)

@@ -23,9 +23,9 @@ fn no_answers() -> [u8; 65536]
 // Runs a trace on a part with address pins 0 and saved bits 0, and writes the text of the answers to the front of out, as far
 // as there is room.
 pub fn show(part: u32, trace: &[u8], memory: &mut [u8], out: &mut [u8]) -> Report
-    ensures { λ r. ⌜ r ≡ reportOf part (now (trace .entry)) (now (memory .entry)) ⌝ }
-    ensures { λ r. ⌜ now (memory .exit) ≡ memoryOf part (now (trace .entry)) (now (memory .entry)) ⌝ }
-    ensures { λ r. ⌜ now (out .exit) ≡ sets (now (out .entry)) 0 (textOf part (now (trace .entry)) (now (memory .entry))) ⌝ }
+    ensures report { λ r. ⌜ r ≡ reportOf part (now (trace .entry)) (now (memory .entry)) ⌝ }
+    ensures memory { λ r. ⌜ now (memory .exit) ≡ memoryOf part (now (trace .entry)) (now (memory .entry)) ⌝ }
+    ensures text { λ r. ⌜ now (out .exit) ≡ sets (now (out .entry)) 0 (textOf part (now (trace .entry)) (now (memory .entry))) ⌝ }
 {
     if 65536 < trace.len() {
         return Report {

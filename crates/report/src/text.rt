@@ -22,8 +22,8 @@ fn letter_of(answer: u8) -> u8
 // One answer at a column; the place after it.
 fn write_piece(out: &mut [u8], at: usize, column: usize, answer: u8) -> usize
     requires { ⌜ at < 1000000 ⌝ }
-    ensures { λ r. ⌜ r ≡ at + length (piece column answer) ⌝ }
-    ensures { λ r. ⌜ now (out .exit) ≡ sets (now (out .entry)) at (piece column answer) ⌝ }
+    ensures place { λ r. ⌜ r ≡ at + length (piece column answer) ⌝ }
+    ensures text { λ r. ⌜ now (out .exit) ≡ sets (now (out .entry)) at (piece column answer) ⌝ }
 {
     let letter = letter_of(answer);
     samples::note::note(&mut *out, at, letter);
@@ -44,8 +44,8 @@ fn next_column(column: usize) -> usize
 // The end of the last line, if it holds something; the place after it.
 fn close_line(out: &mut [u8], at: usize, column: usize) -> usize
     requires { ⌜ at < 1000000 ⌝ }
-    ensures { λ r. ⌜ r ≡ at + length (text column []) ⌝ }
-    ensures { λ r. ⌜ now (out .exit) ≡ sets (now (out .entry)) at (text column []) ⌝ }
+    ensures place { λ r. ⌜ r ≡ at + length (text column []) ⌝ }
+    ensures text { λ r. ⌜ now (out .exit) ≡ sets (now (out .entry)) at (text column []) ⌝ }
 {
     if column == 0 {
         return at;
@@ -57,8 +57,8 @@ fn close_line(out: &mut [u8], at: usize, column: usize) -> usize
 // The text of answers to the front of out, as far as there is room; how many bytes the text has.
 pub fn write_text(answers: &[u8], out: &mut [u8]) -> usize
     requires { ⌜ length (now answers) ≤ 65536 ⌝ }
-    ensures { λ r. ⌜ r ≡ length (text 0 (now (answers .entry))) ⌝ }
-    ensures { λ r. ⌜ now (out .exit) ≡ sets (now (out .entry)) 0 (text 0 (now (answers .entry))) ⌝ }
+    ensures length { λ r. ⌜ r ≡ length (text 0 (now (answers .entry))) ⌝ }
+    ensures text { λ r. ⌜ now (out .exit) ≡ sets (now (out .entry)) 0 (text 0 (now (answers .entry))) ⌝ }
 {
     let mut i: usize = 0;
     let mut at: usize = 0;

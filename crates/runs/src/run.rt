@@ -33,9 +33,9 @@ pub fn replay_checked(
     answers: &mut [u8],
 ) -> Ran
     requires { ⌜ Sound model (now memory) ⌝ }
-    ensures { λ r. ⌜ r ≡ ranOf (loopOf quota (now (trace .entry)) model (now (memory .entry))) ⌝ }
-    ensures { λ r. ⌜ now (memory .exit) ≡ loopOf quota (now (trace .entry)) model (now (memory .entry)) .memory ⌝ }
-    ensures { λ r. ⌜ now (answers .exit) ≡ sets (now (answers .entry)) 0 (loopOf quota (now (trace .entry)) model (now (memory .entry)) .answers) ⌝ }
+    ensures ran { λ r. ⌜ r ≡ ranOf (loopOf quota (now (trace .entry)) model (now (memory .entry))) ⌝ }
+    ensures memory { λ r. ⌜ now (memory .exit) ≡ loopOf quota (now (trace .entry)) model (now (memory .entry)) .memory ⌝ }
+    ensures answers { λ r. ⌜ now (answers .exit) ≡ sets (now (answers .entry)) 0 (loopOf quota (now (trace .entry)) model (now (memory .entry)) .answers) ⌝ }
 {
     let part = parts::part::part_of(model.part as usize);
     let mut state = model;

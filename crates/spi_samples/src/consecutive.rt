@@ -28,9 +28,9 @@ pub fn spi_samples(
     answers: &mut [u8],
 ) -> Reached
     requires { ⌜ (part ≡ partOf (model .part)) × (model .bus ≡ SpiOn spi) × Sound model (now memory) × (start ≤ length (now trace)) ⌝ }
-    ensures { λ r. ⌜ r ≡ reachedBy first start (samplesOf (quota - first) (drop start (now (trace .entry))) model (now (memory .entry))) ⌝ }
-    ensures { λ r. ⌜ now (memory .exit) ≡ samplesOf (quota - first) (drop start (now (trace .entry))) model (now (memory .entry)) .memory ⌝ }
-    ensures { λ r. ⌜ now (answers .exit) ≡ sets (now (answers .entry)) first (samplesOf (quota - first) (drop start (now (trace .entry))) model (now (memory .entry)) .answers) ⌝ }
+    ensures progress { λ r. ⌜ r ≡ reachedBy first start (samplesOf (quota - first) (drop start (now (trace .entry))) model (now (memory .entry))) ⌝ }
+    ensures memory { λ r. ⌜ now (memory .exit) ≡ samplesOf (quota - first) (drop start (now (trace .entry))) model (now (memory .entry)) .memory ⌝ }
+    ensures answers { λ r. ⌜ now (answers .exit) ≡ sets (now (answers .entry)) first (samplesOf (quota - first) (drop start (now (trace .entry))) model (now (memory .entry)) .answers) ⌝ }
 {
     let mut status = model.status;
     let mut last = selection::levels::sample_of(spi.last);

@@ -45,8 +45,8 @@ pub fn note_shown(answers: &mut [u8], at: usize, levels: Levels, shown: Answer)
 // A counted rise: its write is stored, and the phase after it given back.
 pub fn rise(part: Part, status: Status, phase: Phase, si: bool, memory: &mut [u8]) -> Phase
     requires { ⌜ Fit part × PhaseIn part phase × (length (now memory) ≡ part .size) ⌝ }
-    ensures { λ r. ⌜ r ≡ afterRise part phase si ⌝ }
-    ensures { λ r. ⌜ now (memory .exit) ≡ applied (riseWrite part status phase si) (now (memory .entry)) ⌝ }
+    ensures phase { λ r. ⌜ r ≡ afterRise part phase si ⌝ }
+    ensures memory { λ r. ⌜ now (memory .exit) ≡ applied (riseWrite part status phase si) (now (memory .entry)) ⌝ }
 {
     let write = spi::store::rise_write(part, status, phase, si);
     serial::write::apply(write, memory);

@@ -47,8 +47,8 @@ pub fn one_other(
     answers: &mut [u8],
 ) -> Other
     requires { ⌜ (part ≡ partOf (model .part)) × (offset ≤ length (now trace)) × ReadApart (readOf part (drop offset (now trace))) (model .bus) ⌝ }
-    ensures { λ r. ⌜ ((m : List ℕ) → r ≡ otherOf (readOf part (drop offset (now (trace .entry)))) model m offset) ⌝ }
-    ensures { λ r. ⌜ ((m : List ℕ) → now (answers .exit) ≡ otherNoted (readOf part (drop offset (now (trace .entry)))) model m count (now (answers .entry))) ⌝ }
+    ensures other { λ r. ⌜ ((m : List ℕ) → r ≡ otherOf (readOf part (drop offset (now (trace .entry)))) model m offset) ⌝ }
+    ensures answers { λ r. ⌜ ((m : List ℕ) → now (answers .exit) ≡ otherNoted (readOf part (drop offset (now (trace .entry)))) model m count (now (answers .entry))) ⌝ }
 {
     let read = trace::read::read_event(part, &trace[offset..]);
     let Read::Whole { event, taken } = read else {
