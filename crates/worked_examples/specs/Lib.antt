@@ -3,3 +3,5 @@ pub mod Cases
 pub mod Examples
 pub mod OwnCases
 pub mod Refusals
+pub mod Codes
+pub mod Words

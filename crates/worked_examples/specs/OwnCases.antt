@@ -1,13 +1,13 @@
 -- Cases of our own, from the sheets and from document 01's rules.
-use Prim.Native.Nat.{ℕ, suc, _+_}
-use mathlib.Core.Bool.{true, cond}
+use Prim.Native.Nat.{ℕ, suc, _+_, _*_}
+use mathlib.Core.Bool.{Bool, true, cond, not}
 use mathlib.Core.List.{List, [], _∷_, _++_, map}
 use lib.Dec.{eqb}
 use lib.ListN.{length}
-use Rattle.parts.specs.Status.{cleared, withWel}
+use Rattle.parts.specs.Status.{bit, cleared, withWel}
 use Rattle.chip.specs.declared.model.Model.{Model}
 use Rattle.chip.specs.Model.{unpowered}
-use Rattle.worked_examples.specs.Traces.{Step, step, sample, powerOff, spelled, two, three, spiOn, shown, held, sent, seen, selected, command, asked, wren, wrsr, rdsr, write, read, i2cOn, clock, taken, stop, byte, word, given, put, got}
+use Rattle.worked_examples.specs.Traces.{Step, step, sample, powerOff, spelled, two, three, spiOn, shown, held, sent, seen, selected, command, asked, wren, wrsr, rdsr, write, read, i2cOn, clock, taken, start, stop, byte, word, given, put, got}
 use Rattle.worked_examples.specs.Cases.{Cell, cell, Case, madeOf, made}
 use Rattle.worked_examples.specs.Examples.{onPart0}
 
@@ -156,10 +156,17 @@ wordCases =
 abbrev pub onPart3 : List Step → List Cell → Case
 onPart3 steps cells = made 3 0 0 (cell 0x10 0x77 ∷ []) (i2cOn 0 ++ steps) cells
 
+-- a bit that SDA has only in the sample in which SCL rises: before, with SCL low, it changes to the other level
+abbrev pub late : Bool → List Step
+late b = sample (2 * bit b) 2 ++ sample (2 * bit (not b)) 2 ++ sample (2 * bit b + 1) 2
+
 unfoldable pub transferCases : List Case
 transferCases =
     -- 00001xxx of HS mode and F8h are not the part's
     onPart3 (word 0x08 2 ++ stop ++ word 0xf8 2) []
+    -- SDA that changes while SCL is low, and in the sample in which SCL rises, is no START and no STOP: the bit is the line then
+    ∷ onPart3 (start ++ spelled late 0xa0 0 8 ++ clock true 0) []
+    ∷ onPart3 (start ++ spelled late 0xa1 0 8 ++ clock true 0) []
     -- part 4, A16 1: a write and a read
     ∷ made 4 0 0 [] (storedAndRead 0xa2 0x1234) (cell 0x11234 0xaa ∷ cell 0x11235 0xbb ∷ [])
     -- the read word's A16 replaces the write word's

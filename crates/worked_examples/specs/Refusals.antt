@@ -1,9 +1,9 @@
 -- Single events and makings that are refused: document 01's table 'Numbers given back', each number alone and with a reason for a later
 -- number beside it. No event can have the reasons of both 7 and 8 (no power, power is on) or of both 8 and 9 (01 or 02, 05).
-use Prim.Native.Nat.{ℕ}
+use Prim.Native.Nat.{ℕ, zero, suc, _+_}
 use mathlib.Core.Path.{_≡_}
 use mathlib.Core.Bool.{true, false}
-use mathlib.Core.List.{List, [], _∷_}
+use mathlib.Core.List.{List, [], _∷_, _++_, map}
 use lib.ListN.{length}
 use Rattle.parts.specs.declared.answer.Answer.the-variants.{HighZ}
 use Rattle.parts.specs.declared.status.Status.{Status}
@@ -73,6 +73,17 @@ abbrev pub overfull : Model
 overfull = modelOf 0 0 cleared (SpiOn (record { last = SpiLevels.levelsOf 24; asleep = false; shown = HighZ; phase = Taking Opcode 8 0 }))
 
 -- ---- the events
+
+-- n numbers from k up
+abbrev pub upFrom : ℕ → ℕ → List ℕ
+upFrom k zero = []
+upFrom k (suc n) = k ∷ upFrom (k + 1) n
+
+-- 4 for every kind from 6 up, on either bus, with a body that an expected answer could have
+unfoldable pub otherKinds : List Refusal
+otherKinds =
+    map (λ k. refusal on 4096 (k ∷ 2 ∷ []) 4) (upFrom 6 250)
+    ++ map (λ k. refusal (onI2c 3 cleared 0) 8192 (k ∷ 2 ∷ []) 4) (upFrom 6 250)
 
 unfoldable pub refusals : List Refusal
 refusals =
