@@ -10,7 +10,7 @@ use Rattle.parts.specs.Status.{cleared}
 use Rattle.model.specs.declared.make.Made.{Made}
 use Rattle.model.specs.Make.{makeOf}
 use Rattle.worked_examples.specs.Cases.{Every}
-use Rattle.worked_examples.specs.Refusals.{Refusal, answerTo, EventRefused, RunRefused, refusals, otherKinds, emptyEvents, Making, MakingRefused, refusedMakings}
+use Rattle.worked_examples.specs.Refusals.{Refusal, answerTo, EventRefused, RunRefused, refusals, outOfRange, otherKinds, emptyEvents, Making, MakingRefused, refusedMakings}
 use Rattle.worked_examples.proofs.Trail.{Done, outcome, unwritten, eventBy, event-by, Trail, runFrom, stopBy, loopBy, runBy, run-by}
 
 -- two lists with the same entries
@@ -42,6 +42,14 @@ events-tested g = refl
 -- a refused event gives its number, answer 2, the given state and the given memory
 pub refused-events : Every EventRefused refusals
 refused-events = events-refused refusals events-tested
+
+ranges-tested : (g : ℕ → ℕ) → map (eventGiven g) outOfRange ≡ map eventWanted outOfRange
+unfolding outOfRange checkOf readOf makeOf
+ranges-tested g = refl
+
+-- each number of a phase one past its range gives 2
+pub ranges-refused : Every EventRefused outOfRange
+ranges-refused = events-refused outOfRange ranges-tested
 
 kinds-tested : (g : ℕ → ℕ) → map (eventGiven g) otherKinds ≡ map eventWanted otherKinds
 unfolding otherKinds checkOf readOf makeOf

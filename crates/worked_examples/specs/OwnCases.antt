@@ -49,6 +49,14 @@ runCases =
 
 -- ---- SPI
 
+-- a bit that SI has only in the sample in which SCK rises
+abbrev pub lateIn : Bool → List Step
+lateIn b = sample (24 + 4 * bit (not b)) 2 ++ sample (24 + 4 * bit b + 2) 2
+
+-- RDSR after WREN, with these samples after the fall that shows the seventh bit, WEL, and before its rise
+abbrev pub atWel : List Step → Case
+atWel steps = onPart0 (spiOn ++ wren ++ selected 24 (sent 24 (0x05 ∷ []) ++ spelled shown 0x02 0 6 ++ sample 24 1 ++ steps ++ shown true ++ spelled shown 0x02 7 1)) []
+
 unfoldable pub statusCases : List Case
 statusCases =
     -- BP 01 and BP 10, with WEL clear after WRSR and set after WREN
@@ -63,7 +71,12 @@ statusCases =
     -- the status is repeated
     ∷ onPart0 (spiOn ++ wren ++ asked (0x05 ∷ []) (0x02 ∷ 0x02 ∷ [])) []
     -- a hold while the seventh bit is shown: nothing is driven and no clock counts, then the bit is shown again
-    ∷ onPart0 (spiOn ++ wren ++ selected 24 (sent 24 (0x05 ∷ []) ++ spelled shown 0x02 0 6 ++ sample 24 1 ++ held ++ shown true ++ spelled shown 0x02 7 1)) []
+    ∷ atWel held
+    -- SCK rises in the sample in which HOLD# rises, or falls: that is no clock, and the next fall shows the bit again
+    ∷ atWel (sample 8 2 ++ sample 26 1)
+    ∷ atWel (sample 10 2 ++ sample 26 1)
+    -- the bit is SI in the sample in which SCK rises
+    ∷ onPart0 (spiOn ++ selected 24 (spelled lateIn 0x06 0 8) ++ rdsr 0x02) []
     -- power on with CS# 0: deaf until CS# has been 1
     ∷ onPart0 (step (1 ∷ 24 ∷ []) 2 ++ sent 24 (0x05 ∷ 0 ∷ []) ++ sample 27 2 ++ sample 25 2 ++ rdsr 0x00) []
     -- the bits over a power cut: lost on part 0, saved on parts 1 and 2
@@ -114,7 +127,8 @@ abbrev pub storedAndRead : ℕ → ℕ → List Step
 storedAndRead w a =
     i2cOn 0 ++ put w (two a) (0xaa ∷ 0xbb ∷ []) ++ stop ++ put w (two a) [] ++ got (w + 1) (0xaa ∷ []) 0xbb
 
--- two bytes written from the top address of each part with nothing protected, and read again: the second goes to 0
+-- two bytes written from the top address of each part with nothing protected, and read again: the second goes to 0; and from an
+-- address past the top, which counts modulo the size
 unfoldable pub topCases : List Case
 topCases =
     onPart0 (spiOn ++ acrossTwo 0xfff ++ read (two 0xfff) (0xaa ∷ 0xbb ∷ [])) (cell 0xfff 0xaa ∷ cell 0 0xbb ∷ [])
@@ -122,6 +136,10 @@ topCases =
     ∷ made 2 0 0 [] (spiOn ++ acrossThree 0x3ffff ++ read (three 0x3ffff) (0xaa ∷ 0xbb ∷ [])) (cell 0x3ffff 0xaa ∷ cell 0 0xbb ∷ [])
     ∷ made 3 0 0 [] (storedAndRead 0xa0 0x1fff) (cell 0x1fff 0xaa ∷ cell 0 0xbb ∷ [])
     ∷ made 4 0 0 [] (storedAndRead 0xa2 0xffff) (cell 0x1ffff 0xaa ∷ cell 0 0xbb ∷ [])
+    ∷ onPart0 (spiOn ++ acrossTwo 0xf123 ++ read (two 0x5123) (0xaa ∷ 0xbb ∷ [])) (cell 0x123 0xaa ∷ cell 0x124 0xbb ∷ [])
+    ∷ made 1 0 0 [] (spiOn ++ acrossThree 0xfe1234) (cell 0x1234 0xaa ∷ cell 0x1235 0xbb ∷ [])
+    ∷ made 2 0 0 [] (spiOn ++ acrossThree 0xfc1234) (cell 0x1234 0xaa ∷ cell 0x1235 0xbb ∷ [])
+    ∷ made 3 0 0 [] (storedAndRead 0xa0 0xf123) (cell 0x1123 0xaa ∷ cell 0x1124 0xbb ∷ [])
     ∷ []
 
 -- ---- I2C
@@ -178,8 +196,9 @@ transferCases =
     ∷ onPart3 (put 0xa0 (two 0x10) [] ++ spelled taken 0x5b 0 8 ++ sample 1 2 ++ byte 0xa1 0 ++ given true 0x77 ++ stop) []
     -- STOP in the middle of a data byte: the byte before it stands
     ∷ onPart3 (put 0xa0 (two 0x10) (0x5a ∷ []) ++ spelled taken 0xff 0 4 ++ stop) (cell 0x10 0x5a ∷ [])
-    -- after STOP a word with no START gets no acknowledge
+    -- after STOP, and from power on, a word with no START gets no acknowledge
     ∷ onPart3 (word 0xa0 0 ++ stop ++ byte 0xa0 2) []
+    ∷ onPart3 (byte 0xa0 2) []
     -- the last used address: after a write at 000Fh a read begins at 0010h
     ∷ onPart3 (put 0xa0 (two 0x0f) (0x5a ∷ []) ++ stop ++ got 0xa1 [] 0x77) (cell 0x0f 0x5a ∷ [])
     -- WP 1 at the ninth rise: acknowledged and dropped

@@ -9,8 +9,13 @@ use Rattle.parts.specs.declared.answer.Answer.the-variants.{HighZ}
 use Rattle.parts.specs.declared.status.Status.{Status}
 use Rattle.parts.specs.Status.{cleared, withWel}
 use Rattle.selection.specs.Levels as SpiLevels
-use Rattle.selection.specs.declared.phase.Field.the-variants.{Opcode}
-use Rattle.selection.specs.declared.phase.Phase.the-variants.{Taking}
+use Rattle.selection.specs.declared.phase.Field.the-variants as SpiFields
+use Rattle.selection.specs.declared.phase.Source.the-variants as SpiSources
+use Rattle.selection.specs.declared.phase.Phase as SpiPhase
+use Rattle.selection.specs.declared.phase.Phase.the-variants as SpiPhases
+use Rattle.transfer.specs.declared.phase.Field.the-variants as I2cFields
+use Rattle.transfer.specs.declared.phase.Phase as I2cPhase
+use Rattle.transfer.specs.declared.phase.Phase.the-variants as I2cPhases
 use Rattle.transfer.specs.Levels as I2cLevels
 use Rattle.power.specs.Power.{spiStart, i2cStart}
 use Rattle.chip.specs.declared.model.BusState.the-variants.{SpiOn, I2cOn}
@@ -68,9 +73,14 @@ halved = record { srwd = false; bp1 = true; bp0 = false; wel = false }
 abbrev pub onI2c : ℕ → Status → ℕ → Model
 onI2c part st a = modelOf part 0 st (I2cOn (i2cStart (I2cLevels.levelsOf 3) a))
 
--- part 0 with eight bits of an opcode that is not yet taken
-abbrev pub overfull : Model
-overfull = modelOf 0 0 cleared (SpiOn (record { last = SpiLevels.levelsOf 24; asleep = false; shown = HighZ; phase = Taking Opcode 8 0 }))
+-- part 0, and part 3 with an address of 0 in its buffer, in a phase
+abbrev pub inSpi : SpiPhase.Phase → Model
+inSpi ph = modelOf 0 0 cleared (SpiOn (record { last = SpiLevels.levelsOf 24; asleep = false; shown = HighZ; phase = ph }))
+
+abbrev pub inI2c : I2cPhase.Phase → Model
+inI2c ph =
+    modelOf 3 0 cleared
+    (I2cOn (record { last = I2cLevels.levelsOf 3; pulling = false; buffer = record { address = 0; used = false }; phase = ph }))
 
 -- ---- the events
 
@@ -95,14 +105,14 @@ refusals =
     ∷ refusal (onI2c 3 halved 0) 8192 (4 ∷ 3 ∷ []) 1
     ∷ refusal (unpowered 0 1 latched) 4096 (1 ∷ 25 ∷ []) 1
     ∷ refusal (onI2c 3 halved 8192) 8192 (4 ∷ 3 ∷ []) 1
-    -- 2: WEL set without power and on part 3, a buffer past the size, a count out of range, the other bus with bits 0 and with bits
-    -- that part 0 may hold under power; with 3: a byte too few
+    -- 2: WEL set without power and on part 3, a buffer past the size, the other bus with bits 0 and with bits that part 0 may hold under
+    -- power; with 3: a byte too few. `outOfRange` has the numbers of the phases
     ∷ refusal (unpowered 0 0 latched) 4096 (1 ∷ 25 ∷ []) 2
     ∷ refusal (onI2c 3 latched 0) 8192 (4 ∷ 3 ∷ []) 2
     ∷ refusal (onI2c 3 cleared 8192) 8192 (4 ∷ 3 ∷ []) 2
-    ∷ refusal overfull 4096 (4 ∷ 25 ∷ []) 2
     ∷ refusal (onI2c 0 cleared 0) 4096 (4 ∷ 3 ∷ []) 2
     ∷ refusal (onI2c 0 halved 0) 4096 (4 ∷ 3 ∷ []) 2
+    ∷ refusal (modelOf 3 0 cleared (SpiOn (spiStart (SpiLevels.levelsOf 25)))) 8192 (4 ∷ 3 ∷ []) 2
     ∷ refusal (unpowered 0 0 latched) 4095 (1 ∷ 25 ∷ []) 2
     -- 3: a byte too few, a byte too many; with 4: an unknown kind
     ∷ refusal off 4095 (1 ∷ 25 ∷ []) 3
@@ -139,6 +149,36 @@ refusals =
     ∷ refusal on 4096 (5 ∷ 1 ∷ 4 ∷ []) 9
     ∷ refusal (onI2c 3 cleared 0) 8192 (5 ∷ 0 ∷ []) 9
     ∷ []
+
+-- 2: each number of a phase one past its range
+unfoldable pub outOfRange : List Refusal
+outOfRange =
+    map (λ ph. refusal (inSpi ph) 4096 (4 ∷ 25 ∷ []) 2)
+    (SpiPhases.Taking SpiFields.Opcode 8 0
+    ∷ SpiPhases.Taking SpiFields.Opcode 7 128
+    ∷ SpiPhases.Taking SpiFields.ReadAddress 16 0
+    ∷ SpiPhases.Taking SpiFields.ReadAddress 15 32768
+    ∷ SpiPhases.Taking SpiFields.FastAddress 16 0
+    ∷ SpiPhases.Taking SpiFields.WriteAddress 16 0
+    ∷ SpiPhases.Taking (SpiFields.Dummy 0) 8 0
+    ∷ SpiPhases.Taking (SpiFields.Dummy 4096) 0 0
+    ∷ SpiPhases.Taking (SpiFields.Data 0 false) 8 0
+    ∷ SpiPhases.Taking (SpiFields.Data 4096 false) 0 0
+    ∷ SpiPhases.Taking SpiFields.StatusByte 8 0
+    ∷ SpiPhases.Showing SpiSources.Register 8
+    ∷ SpiPhases.Showing (SpiSources.Memory 4096) 0
+    ∷ SpiPhases.Showing (SpiSources.Identity 4) 0
+    ∷ [])
+    ++ map (λ ph. refusal (inI2c ph) 8192 (4 ∷ 3 ∷ []) 2)
+    (I2cPhases.Taking I2cFields.Word 9 0
+    ∷ I2cPhases.Taking I2cFields.Word 8 256
+    ∷ I2cPhases.Taking (I2cFields.HighByte false) 9 0
+    ∷ I2cPhases.Taking (I2cFields.LowByte false 0) 9 0
+    ∷ I2cPhases.Taking (I2cFields.Data 0) 9 0
+    ∷ I2cPhases.Taking (I2cFields.Data 8192) 0 0
+    ∷ I2cPhases.Sending 8192 0
+    ∷ I2cPhases.Sending 0 9
+    ∷ [])
 
 -- 5: a single event that is empty, without power and with
 unfoldable pub emptyEvents : List Refusal
