@@ -22,7 +22,7 @@ use Rattle.chip.specs.declared.check.Verdict.{Verdict}
 use Rattle.chip.specs.declared.check.Verdict.the-variants.{Passed, Failed}
 use Rattle.chip.specs.declared.model.BusState.the-variants.{SpiOn, I2cOn}
 use Rattle.chip.specs.declared.model.Model.{Model}
-use Rattle.chip.specs.Check.{noBits, holdsBits, modelIn, busIn, checkOf, Sound}
+use Rattle.chip.specs.Check.{bitsClear, holdsBits, modelIn, busIn, checkOf, Sound}
 
 -- a test that passed, before others that would have failed with a refusal
 passed : (t : Bool) (v : Verdict) (r : Refusal) → cond t v (Failed r) ≡ Passed → (t ≡ true) × (v ≡ Passed)
@@ -34,7 +34,7 @@ passed false v r h = let z : _≡_ {A = ℕ} 0 1 = cc in absurd (omega arith)
 pub record ModelIn (s : Model) : Type 0 where
   pub known : s .part < 5
   pub wired : s .pins < partOf (s .part) .pins
-  pub bits : cond (holdsBits (partOf (s .part)) (s .bus)) true (noBits (s .status)) ≡ true
+  pub bits : cond (holdsBits (partOf (s .part)) (s .bus)) true (bitsClear (s .status)) ≡ true
 
 pub model-in : (s : Model) → modelIn s ≡ true → ModelIn s
 model-in s h =

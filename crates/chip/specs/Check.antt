@@ -19,8 +19,8 @@ use Rattle.chip.specs.declared.model.BusState.the-variants.{Unpowered, S
 use Rattle.chip.specs.declared.model.Model.{Model}
 
 -- SRWD, BP1 and BP0 are all 0
-abbrev pub noBits : Status → Bool
-noBits st = not (st .srwd) && (not (st .bp1) && not (st .bp0))
+abbrev pub bitsClear : Status → Bool
+bitsClear st = not (st .srwd) && (not (st .bp1) && not (st .bp0))
 
 -- saved bits are 0 to 7 for a part that saves them, and under power for every SPI part, part 0 too, whatever its bus state is: that it
 -- is not the part's is number 2
@@ -31,7 +31,7 @@ holdsBits p (I2cOn s) = cond (p .saved) true (isSpi (p .bus))
 
 -- address pins and saved bits that the part can have
 abbrev pub placedIn : Part → Model → Bool
-placedIn p s = ltb (s .pins) (p .pins) && cond (holdsBits p (s .bus)) true (noBits (s .status))
+placedIn p s = ltb (s .pins) (p .pins) && cond (holdsBits p (s .bus)) true (bitsClear (s .status))
 
 -- number 1 is given where part, address pins or saved bits are out of range
 abbrev pub modelIn : Model → Bool

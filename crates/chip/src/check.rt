@@ -3,7 +3,7 @@ ghost use mathlib.Core.Path.{_≡_};
 ghost use Prim.Native.Nat.{_<_};
 ghost use mathlib.Core.Bool.{true, cond};
 ghost use Rattle.parts.specs.Table.{isSpi, Fit};
-ghost use Rattle.chip.specs.Check.{noBits, holdsBits, placedIn, modelIn, i2cIn, busIn, partCheck, checkOf};
+ghost use Rattle.chip.specs.Check.{bitsClear, holdsBits, placedIn, modelIn, i2cIn, busIn, partCheck, checkOf};
 use crate::model::BusState;
 use crate::model::Model;
 use i2c::sample::I2c;
@@ -17,8 +17,8 @@ pub enum Verdict {
 }
 
 // Whether SRWD, BP1 and BP0 are all 0.
-fn no_bits(status: Status) -> bool
-    ensures { λ r. ⌜ r ≡ noBits status ⌝ }
+fn bits_clear(status: Status) -> bool
+    ensures { λ r. ⌜ r ≡ bitsClear status ⌝ }
 {
     if status.srwd {
         false
@@ -60,7 +60,7 @@ fn placed_in(part: Part, model: Model) -> bool
         if holds_bits(part, bus) {
             true
         } else {
-            no_bits(status)
+            bits_clear(status)
         }
     } else {
         false

@@ -1,6 +1,6 @@
 // A program that runs the raw bytes of standard input on a part: reads, shows, prints.
 ghost use mathlib.Core.Path.{_≡_};
-ghost use Rattle.report.specs.Report.{memoryOf};
+ghost use Rattle.report.specs.Report.{memoryAfterRun};
 use libc::STDIN_FILENO;
 use libc::STDOUT_FILENO;
 
@@ -13,7 +13,7 @@ pub fn serve(part: u32, memory: &mut [u8]) {
 
 // The same for bytes at hand.
 pub fn print(part: u32, trace: &[u8], memory: &mut [u8])
-    ensures { λ r. ⌜ now (memory .exit) ≡ memoryOf part (now (trace .entry)) (now (memory .entry)) ⌝ }
+    ensures { λ r. ⌜ now (memory .exit) ≡ memoryAfterRun part (now (trace .entry)) (now (memory .entry)) ⌝ }
 {
     // 65,536 answers and 1,024 line ends: the longest text there is
     let mut out = [0u8; 66560];

@@ -33,7 +33,7 @@ use Rattle.transfer.proofs.RangeLaws as I2cRanges
 use Rattle.chip.specs.declared.model.BusState.{BusState}
 use Rattle.chip.specs.declared.model.BusState.the-variants.{Unpowered, SpiOn, I2cOn}
 use Rattle.chip.specs.declared.model.Model.{Model}
-use Rattle.chip.specs.Check.{noBits, Sound}
+use Rattle.chip.specs.Check.{bitsClear, Sound}
 use Rattle.events.specs.Event.{accepted, refused, expected, onUnpowered, onSpi, onI2c, advanceOn, advanceOf}
 use Rattle.chip.specs.Model.{modelOf, unpowered}
 use Rattle.power.specs.Power.{atPower, keptStatus}
@@ -49,7 +49,7 @@ i2c-bits true spi none e h = refl
 i2c-bits false spi none e h = rw e h
 
 -- what is left of the register at power off is what the part may hold without power
-kept-bits : (y : Bool) (st : Status) (p : Part) → p .saved ≡ y → cond y true (noBits (keptStatus p st)) ≡ true
+kept-bits : (y : Bool) (st : Status) (p : Part) → p .saved ≡ y → cond y true (bitsClear (keptStatus p st)) ≡ true
 kept-bits true st p e = refl
 kept-bits false st p e = rw e
 

@@ -1,4 +1,4 @@
 pub mod Keeps
 pub mod Done
 pub mod Stays
-pub mod ApartLaws
+pub mod OtherEventLaws

@@ -1,3 +1,3 @@
 pub mod Event
-pub mod Apart
+pub mod OtherEvent
 pub mod Stays

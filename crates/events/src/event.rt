@@ -3,7 +3,7 @@ ghost use mathlib.Core.Path.{_≡_};
 ghost use Rattle.events.specs.Event.{accepted, refused, expected, poweredOn, poweredOff, onUnpowered};
 ghost use Rattle.parts.specs.Table.{partOf};
 ghost use Rattle.trace.specs.Sample.{NoSample};
-ghost use Rattle.events.specs.Apart.{Apart, Answering, Gives};
+ghost use Rattle.events.specs.OtherEvent.{OtherThanSample, Answering, EventGives};
 use chip::model::BusState;
 use chip::model::Model;
 use parts::answer::Answer;
@@ -92,7 +92,7 @@ fn on_unpowered(model: Model, event: Event) -> Answered
 // An event other than a sample of a part under power, whose present answer this is.
 fn under_power(part: Part, model: Model, present: Answer, event: Event) -> Answered
     requires { ⌜ (part ≡ partOf (model .part)) × Answering (model .bus) present × NoSample event ⌝ }
-    ensures { λ r. ⌜ Gives model event r ⌝ }
+    ensures { λ r. ⌜ EventGives model event r ⌝ }
 {
     match event {
         Event::SpiPowerOn { sample: _ } => refuse(Refusal::Powered, model),
@@ -108,9 +108,9 @@ fn under_power(part: Part, model: Model, present: Answer, event: Event) -> Answe
 }
 
 // An event that is no sample under power. It stores nothing, so it takes no memory, and gives the same on any.
-pub fn apart(part: Part, model: Model, event: Event) -> Answered
-    requires { ⌜ (part ≡ partOf (model .part)) × Apart (model .bus) event ⌝ }
-    ensures { λ r. ⌜ Gives model event r ⌝ }
+pub fn other_event(part: Part, model: Model, event: Event) -> Answered
+    requires { ⌜ (part ≡ partOf (model .part)) × OtherThanSample (model .bus) event ⌝ }
+    ensures { λ r. ⌜ EventGives model event r ⌝ }
 {
     let bus = model.bus;
     match bus {

@@ -22,17 +22,17 @@ use Rattle.transfer.specs.declared.levels.Levels.{Levels}
 use Rattle.transfer.specs.declared.phase.Field.{Field}
 use Rattle.transfer.specs.declared.phase.Field.the-variants.{Word, HighByte, LowByte, Data}
 use Rattle.transfer.specs.declared.phase.Phase.{Phase}
-use Rattle.transfer.specs.declared.phase.Phase.the-variants.{Rest, Deaf, Taking, Sending}
+use Rattle.transfer.specs.declared.phase.Phase.the-variants.{Rest, Ignoring, Taking, Sending}
 use Rattle.i2c.specs.declared.sample.I2c.{I2c}
 use Rattle.transfer.specs.declared.word.DeviceWord.{DeviceWord}
 use Rattle.transfer.specs.declared.word.DeviceWord.the-variants.{ReadWord, WriteWord, OtherWord}
 use Rattle.transfer.specs.Edge.{edgeOf}
-use Rattle.transfer.specs.Phase.{begun, finished, afterRise}
+use Rattle.transfer.specs.Phase.{phaseAfterWord, phaseAfterByte, afterRise}
 use Rattle.transfer.specs.Ranges.{FieldIn, PhaseIn, Placed}
 use Rattle.i2c.specs.Sample.{stepOn, stepOf, Ready}
 use Rattle.i2c.specs.Store.{fieldWrite, riseWrite}
 use Rattle.transfer.specs.Word.{wordOf}
-use Rattle.transfer.proofs.BufferLaws.{joined-within, read-within, buffer-within}
+use Rattle.transfer.proofs.BufferLaws.{address-within, read-within, buffer-within}
 
 -- the numbers of a byte with none of its bits yet
 none-in : 0 ≤ 8
@@ -43,28 +43,28 @@ no-bits = omega arith
 
 -- the phase after a rise of SCL is in its ranges
 module _ (p : Part) (pins : ℕ) (b : AddressBuffer) (d : Placed p pins b) where
-  begun-in : (w : DeviceWord) → PhaseIn p (begun p b w)
-  begun-in (ReadWord a16) = (read-within p b a16 (d .fit) (d .buffered), none-in)
-  begun-in (WriteWord a16) = (tt, none-in, no-bits)
-  begun-in OtherWord = tt
+  after-word-in : (w : DeviceWord) → PhaseIn p (phaseAfterWord p b w)
+  after-word-in (ReadWord a16) = (read-within p b a16 (d .fit) (d .buffered), none-in)
+  after-word-in (WriteWord a16) = (tt, none-in, no-bits)
+  after-word-in OtherWord = tt
 
-  finished-in : (f : Field) (v : ℕ) → PhaseIn p (finished p pins b f v)
-  finished-in Word v = begun-in (wordOf p pins v)
-  finished-in (HighByte a16) v = (tt, none-in, no-bits)
-  finished-in (LowByte a16 high) v = (joined-within p a16 high v (d .fit), none-in, no-bits)
-  finished-in (Data a) v = (next-within (p .size) a (d .fit .positive), none-in, no-bits)
+  after-byte-in : (f : Field) (v : ℕ) → PhaseIn p (phaseAfterByte p pins b f v)
+  after-byte-in Word v = after-word-in (wordOf p pins v)
+  after-byte-in (HighByte a16) v = (tt, none-in, no-bits)
+  after-byte-in (LowByte a16 high) v = (address-within p a16 high v (d .fit), none-in, no-bits)
+  after-byte-in (Data a) v = (next-within (p .size) a (d .fit .positive), none-in, no-bits)
 
   rise-in : (ph : Phase) (line : Bool) → PhaseIn p ph → PhaseIn p (afterRise p pins b ph line)
   rise-in Rest line i = tt
-  rise-in Deaf line i = tt
+  rise-in Ignoring line i = tt
   rise-in (Taking f n v) line (g, l, h) = by (ltb n 8) refl
     where
-      by : (t : Bool) → ltb n 8 ≡ t → PhaseIn p (cond t (Taking f (n + 1) (shifted v line)) (finished p pins b f v))
+      by : (t : Bool) → ltb n 8 ≡ t → PhaseIn p (cond t (Taking f (n + 1) (shifted v line)) (phaseAfterByte p pins b f v))
       by true e = (g, omega (arith, ltb-true n 8 e), shifted-within n v line h)
-      by false e = finished-in f v
+      by false e = after-byte-in f v
   rise-in (Sending a n) line (h, l) = by (ltb n 8) line refl
     where
-      by : (t u : Bool) → ltb n 8 ≡ t → PhaseIn p (cond t (Sending a (n + 1)) (cond u Deaf (Sending (nextAddress (p .size) a) 0)))
+      by : (t u : Bool) → ltb n 8 ≡ t → PhaseIn p (cond t (Sending a (n + 1)) (cond u Ignoring (Sending (nextAddress (p .size) a) 0)))
       by true u e = (h, omega (arith, ltb-true n 8 e))
       by false true e = tt
       by false false e = (next-within (p .size) a (d .fit .positive), none-in)
@@ -72,7 +72,7 @@ module _ (p : Part) (pins : ℕ) (b : AddressBuffer) (d : Placed p pins b) where
 -- what a rise of SCL writes lies within the part
 pub rise-write-within : (p : Part) (ph : Phase) (wp : Bool) → PhaseIn p ph → Within (p .size) (riseWrite ph wp)
 rise-write-within p Rest wp i = tt
-rise-write-within p Deaf wp i = tt
+rise-write-within p Ignoring wp i = tt
 rise-write-within p (Taking f n v) wp i = by (ltb n 8)
   where
     byte : (x : Field) (w : Bool) → FieldIn p x → Within (p .size) (fieldWrite x v w)

@@ -10,7 +10,7 @@ use Rattle.serial.specs.declared.write.Write.the-variants.{Nothing}
 use Rattle.transfer.specs.declared.phase.Field.{Field}
 use Rattle.transfer.specs.declared.phase.Field.the-variants.{Word, HighByte, LowByte, Data}
 use Rattle.transfer.specs.declared.phase.Phase.{Phase}
-use Rattle.transfer.specs.declared.phase.Phase.the-variants.{Rest, Deaf, Taking, Sending}
+use Rattle.transfer.specs.declared.phase.Phase.the-variants.{Rest, Ignoring, Taking, Sending}
 use Rattle.i2c.specs.Store.{fieldWrite, riseWrite}
 use Rattle.transfer.proofs.phase.Field as field
 use Rattle.transfer.proofs.phase.Phase as phase
@@ -21,7 +21,7 @@ others = 0 ∷ 1 ∷ 3 ∷ []
 
 pub none-taken : (ph : Phase) (wp : Bool) → OneOf others (tagOf phase.the-type ph) → riseWrite ph wp ≡ Nothing
 none-taken Rest wp h = refl
-none-taken Deaf wp h = refl
+none-taken Ignoring wp h = refl
 none-taken (Taking f n v) wp h = absurd (miss others 2 tt h)
 none-taken (Sending a n) wp h = refl
 

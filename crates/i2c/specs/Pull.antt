@@ -12,7 +12,7 @@ use Rattle.transfer.specs.declared.word.DeviceWord.the-variants.{ReadWord, Writ
 use Rattle.transfer.specs.declared.phase.Field.{Field}
 use Rattle.transfer.specs.declared.phase.Field.the-variants.{Word, HighByte, LowByte, Data}
 use Rattle.transfer.specs.declared.phase.Phase.{Phase}
-use Rattle.transfer.specs.declared.phase.Phase.the-variants.{Rest, Deaf, Taking, Sending}
+use Rattle.transfer.specs.declared.phase.Phase.the-variants.{Rest, Ignoring, Taking, Sending}
 use Rattle.transfer.specs.Word.{wordOf}
 
 abbrev pub ours : DeviceWord → Bool
@@ -30,6 +30,6 @@ acknowledges p pins (Data a) v = true
 -- whether the part pulls after a fall of SCL
 abbrev pub pullsAfter : Part → ℕ → List ℕ → Phase → Bool
 pullsAfter p pins m Rest = false
-pullsAfter p pins m Deaf = false
+pullsAfter p pins m Ignoring = false
 pullsAfter p pins m (Taking f n v) = cond (ltb n 8) false (acknowledges p pins f v)
 pullsAfter p pins m (Sending a n) = cond (ltb n 8) (not (bitAt (getD m a 0) n)) false

@@ -7,7 +7,7 @@ use Rattle.serial.specs.declared.write.Write.the-variants.{Nothing, Byte}
 use Rattle.transfer.specs.declared.phase.Field.{Field}
 use Rattle.transfer.specs.declared.phase.Field.the-variants.{Word, HighByte, LowByte, Data}
 use Rattle.transfer.specs.declared.phase.Phase.{Phase}
-use Rattle.transfer.specs.declared.phase.Phase.the-variants.{Rest, Deaf, Taking, Sending}
+use Rattle.transfer.specs.declared.phase.Phase.the-variants.{Rest, Ignoring, Taking, Sending}
 
 -- the ninth rise of a byte that came in as v
 abbrev pub fieldWrite : Field → ℕ → Bool → Write
@@ -19,6 +19,6 @@ fieldWrite (Data a) v wp = cond wp Nothing (Byte a v)
 -- what a rise of SCL writes at a sample with WP at wp
 abbrev pub riseWrite : Phase → Bool → Write
 riseWrite Rest wp = Nothing
-riseWrite Deaf wp = Nothing
+riseWrite Ignoring wp = Nothing
 riseWrite (Taking f n v) wp = cond (ltb n 8) Nothing (fieldWrite f v wp)
 riseWrite (Sending a n) wp = Nothing

@@ -38,7 +38,7 @@ pub fn pulls_after(part: Part, pins: u8, memory: &[u8], phase: Phase) -> bool
 {
     match phase {
         Phase::Rest => false,
-        Phase::Deaf => false,
+        Phase::Ignoring => false,
         Phase::Taking {
             field,
             count,

@@ -6,11 +6,11 @@ ghost use lib.Seq.{sets};
 ghost use Rattle.parts.specs.Table.{partOf};
 ghost use Rattle.chip.specs.Check.{Sound};
 ghost use Rattle.chip.specs.declared.model.BusState.the-variants.{I2cOn};
-ghost use Rattle.samples.specs.Samples.{samplesOf, reachedBy};
+ghost use Rattle.samples.specs.Samples.{samplesOf, progressBy};
 use chip::model::Model;
 use i2c::sample::I2c;
 use parts::part::Part;
-use samples::reached::Reached;
+use samples::progress::Progress;
 use transfer::edge::Edge;
 use transfer::phase::Field;
 use transfer::phase::Phase;
@@ -26,9 +26,9 @@ pub fn i2c_samples(
     start: usize,
     memory: &mut [u8],
     answers: &mut [u8],
-) -> Reached
+) -> Progress
     requires { ⌜ (part ≡ partOf (model .part)) × (model .bus ≡ I2cOn i2c) × Sound model (now memory) × (start ≤ length (now trace)) ⌝ }
-    ensures progress { λ r. ⌜ r ≡ reachedBy first start (samplesOf (quota - first) (drop start (now (trace .entry))) model (now (memory .entry))) ⌝ }
+    ensures progress { λ r. ⌜ r ≡ progressBy first start (samplesOf (quota - first) (drop start (now (trace .entry))) model (now (memory .entry))) ⌝ }
     ensures memory { λ r. ⌜ now (memory .exit) ≡ samplesOf (quota - first) (drop start (now (trace .entry))) model (now (memory .entry)) .memory ⌝ }
     ensures answers { λ r. ⌜ now (answers .exit) ≡ sets (now (answers .entry)) first (samplesOf (quota - first) (drop start (now (trace .entry))) model (now (memory .entry)) .answers) ⌝ }
 {
@@ -40,7 +40,7 @@ pub fn i2c_samples(
     let mut count = first;
     let mut offset = start;
     while crate::turn::next_is(trace, quota, count, offset, pulling) {
-        let sample = samples::reached::first_sample(trace, offset, last);
+        let sample = samples::progress::first_sample(trace, offset, last);
         let levels = transfer::levels::levels_of(sample);
         match transfer::edge::edge_of(pulling, transfer::levels::levels_of(last), levels) {
             Edge::Start => {
@@ -68,7 +68,7 @@ pub fn i2c_samples(
         offset += 2;
     }
     let status = model.status;
-    samples::reached::reach(
+    samples::progress::progress_at(
         model,
         status,
         crate::turn::on_bus(last, pulling, buffer, phase),

@@ -9,7 +9,7 @@ use native.Mathlib.Nat.{mul-zero, mul-suc}
 use native.Mathlib.Omega.{arith}
 use lib.ListN.{length, length-append}
 use Rattle.serial.specs.Bits.{shifted}
-use Rattle.ledger.specs.Bits.{numberAfter, number, Field, short, whole, put, field, eightBits, bytes}
+use Rattle.ledger.specs.Bits.{numberAfter, number, FieldBits, short, whole, put, field, eightBits, bytes}
 use Rattle.ledger.specs.Groups.{Group, groupsFrom, groups}
 
 module _ {A : Type 0} (n : ℕ) where
@@ -64,11 +64,11 @@ pub number-snoc : (xs : List Bool) (x : Bool) → number (xs ++ (x ∷ [])) ≡ 
 number-snoc xs x = after-snoc 0 xs x
 
 -- the bytes after the bits xs of the first, by its other bits
-abbrev pub firstBytes : List Bool → Field → List ℕ
+abbrev pub firstBytes : List Bool → FieldBits → List ℕ
 firstBytes xs (short ys) = []
 firstBytes xs (whole ys rest) = number (xs ++ ys) ∷ bytes rest
 
-first-put : (xs : List Bool) (y : Bool) (f : Field) → firstBytes (xs ++ (y ∷ [])) f ≡ firstBytes xs (put y f)
+first-put : (xs : List Bool) (y : Bool) (f : FieldBits) → firstBytes (xs ++ (y ∷ [])) f ≡ firstBytes xs (put y f)
 first-put xs y (short ys) = refl
 first-put xs y (whole ys rest) = rw append-assoc
 

@@ -20,19 +20,18 @@ use Rattle.transfer.specs.Phase.{afterRise}
 use Rattle.i2c.specs.Pull.{pullsAfter}
 use Rattle.i2c.specs.Sample.{Outcome, answerOf, stepOn, stepOf}
 use Rattle.ledger.specs.Stores.{stored}
-use Rattle.ledger.specs.I2cLedger.{Clock, Item, idle, span, withClock, noted, Wires, wiresAt, edgeBetween, writes}
-use Rattle.ledger.specs.I2cAnswers.{unusedAt, openBuffer, carried, LastFall, none, fallIn, fallOn, pullsSince, pullAnswer}
-use Rattle.ledger.specs.I2cAnswers as Answers
+use Rattle.ledger.specs.I2cLedger.{Clock, Item, idle, span, withClock, itemsOnEdge, Wires, wiresAt, edgeBetween, writes}
+use Rattle.ledger.specs.I2cAnswers.{unusedAt, openBuffer, carried, LastFall, noFall, afterRises, fallIn, fallOn, pullsSince, pullAnswer}
 use Rattle.ledger.proofs.StoreLaws.{stored-append}
 use Rattle.ledger.proofs.WordLaws.{Wired}
 use Rattle.ledger.proofs.I2cReads.{Place, after, after-more}
 use Rattle.ledger.proofs.I2cShows.{span-told, pull-same}
-use Rattle.ledger.proofs.I2cFits.{line-heard, answer-is, same-edge, Good}
+use Rattle.ledger.proofs.I2cFits.{line-is, answer-is, same-edge, Good}
 
 -- the edge is also the one of the wires with the pull from before at both samples
 held-edge : (s : I2c) (l : Levels)
     → let a : ℕ = answerNumber (answerOf (s .pulling)) in edgeBetween (wiresAt (s .last) a) (wiresAt l a) ≡ edgeOf (s .pulling) (s .last) l
-held-edge s l = rw (line-heard (s .last), line-heard l)
+held-edge s l = rw (line-is (s .last), line-is l)
 
 pub pull-number : (y : Bool) → answerNumber (answerOf y) ≡ pullAnswer y
 pull-number true = refl
@@ -40,10 +39,10 @@ pull-number false = refl
 
 -- the last fall is one of the open span
 abbrev pub Within : List Item → LastFall → Type 0
-Within is none = Unit {0}
-Within [] (Answers.after js) = ⊥
-Within (idle ∷ is) (Answers.after js) = ⊥
-Within (span ks ∷ is) (Answers.after js) = (more : List Clock) × ks ≡ js ++ more
+Within is noFall = Unit {0}
+Within [] (afterRises js) = ⊥
+Within (idle ∷ is) (afterRises js) = ⊥
+Within (span ks ∷ is) (afterRises js) = (more : List Clock) × ks ≡ js ++ more
 
 -- the items before the open span
 abbrev earlier : List Item → List Item
@@ -52,10 +51,10 @@ earlier (idle ∷ is) = is
 earlier (span ks ∷ is) = is
 
 within-more : (k : Clock) (is : List Item) (f : LastFall) → Within is f → Within (withClock k is) f
-within-more k is none i = tt
-within-more k [] (Answers.after js) i = absurd i
-within-more k (idle ∷ is) (Answers.after js) i = absurd i
-within-more k (span ks ∷ is) (Answers.after js) (more, e) = (more ++ (k ∷ []), rw (e, append-assoc))
+within-more k is noFall i = tt
+within-more k [] (afterRises js) i = absurd i
+within-more k (idle ∷ is) (afterRises js) i = absurd i
+within-more k (span ks ∷ is) (afterRises js) (more, e) = (more ++ (k ∷ []), rw (e, append-assoc))
 
 within-now : (is : List Item) → Within is (fallIn is)
 within-now [] = tt
@@ -93,10 +92,10 @@ module _ (p : Part) (pins : ℕ) (m₀ : List ℕ) where
     -- what the open span writes does not change what it pulls
     pull-earlier : (c : AddressBuffer) (is : List Item) (f : LastFall) → Within is f
         → pullsSince p pins (stored m₀ (writes p pins is)) c f ≡ pullsSince p pins (stored m₀ (writes p pins (earlier is))) c f
-    pull-earlier c is none i = refl
-    pull-earlier c [] (Answers.after js) i = absurd i
-    pull-earlier c (idle ∷ is) (Answers.after js) i = absurd i
-    pull-earlier c (span ks ∷ is) (Answers.after js) (more, e) = rw (e, stored-append) (pull-same p pins (stored m₀ (writes p pins is)) c js more)
+    pull-earlier c is noFall i = refl
+    pull-earlier c [] (afterRises js) i = absurd i
+    pull-earlier c (idle ∷ is) (afterRises js) i = absurd i
+    pull-earlier c (span ks ∷ is) (afterRises js) (more, e) = rw (e, stored-append) (pull-same p pins (stored m₀ (writes p pins is)) c js more)
 
     earlier-more : (k : Clock) (is : List Item) → earlier (withClock k is) ≡ earlier is
     earlier-more k [] = refl
@@ -126,7 +125,7 @@ module _ (p : Part) (pins : ℕ) (m₀ : List ℕ) where
     -- one sample, edge by edge
     module _ (s : I2c) (l : Levels) (m : List ℕ) (is : List Item) (c : AddressBuffer) (f : LastFall)
         (i : m ≡ stored m₀ (writes p pins is)) (g : Shows s is c f) where
-      on-edge : (e : Edge) → Shows (stepOn e p pins s l m .i2c) (noted e (l .wp) is) (carried e p pins c is) (fallOn e is f)
+      on-edge : (e : Edge) → Shows (stepOn e p pins s l m .i2c) (itemsOnEdge e (l .wp) is) (carried e p pins c is) (fallOn e is f)
       on-edge Start = record { led = rw (buffer-is (s .phase) (s .buffer) c is (g .led)); within = tt; pulling-is = refl }
       on-edge Stop = record { led = (refl, buffer-is (s .phase) (s .buffer) c is (g .led)); within = tt; pulling-is = refl }
       on-edge (Rise line) =
@@ -142,7 +141,7 @@ module _ (p : Part) (pins : ℕ) (m₀ : List ℕ) where
 
       edge-answer : (e : Edge)
           → answerNumber (stepOn e p pins s l m .answer)
-          ≡ pullAnswer (pullsSince p pins (stored m₀ (writes p pins (noted e (l .wp) is))) (carried e p pins c is) (fallOn e is f))
+          ≡ pullAnswer (pullsSince p pins (stored m₀ (writes p pins (itemsOnEdge e (l .wp) is))) (carried e p pins c is) (fallOn e is f))
       edge-answer e = rw (answer-is p pins m e s l, pull-number, ← on-edge e .pulling-is)
 
     -- a sample keeps it, with its answer
@@ -150,7 +149,7 @@ module _ (p : Part) (pins : ℕ) (m₀ : List ℕ) where
         → Good p pins m₀ s m is w → Shows s is c f
         → let o : Outcome = stepOf p pins s l m in
         let e : Edge = edgeBetween w (wiresAt l (answerNumber (o .answer))) in
-        Shows (o .i2c) (noted e (l .wp) is) (carried e p pins c is) (fallOn e is f)
+        Shows (o .i2c) (itemsOnEdge e (l .wp) is) (carried e p pins c is) (fallOn e is f)
     unfolding stepOf
     sample-shows s l m is w c f g h =
         rw (g .wires-are, same-edge p pins m s l) (on-edge s l m is c f (g .memory-is) h (edgeOf (s .pulling) (s .last) l))
@@ -160,7 +159,7 @@ module _ (p : Part) (pins : ℕ) (m₀ : List ℕ) where
         → Good p pins m₀ s m is w → Shows s is c f
         → let e : Edge = edgeBetween w (wiresAt l (answerNumber (answerOf (s .pulling)))) in
         answerNumber (stepOf p pins s l m .answer)
-        ≡ pullAnswer (pullsSince p pins (stored m₀ (writes p pins (noted e (l .wp) is))) (carried e p pins c is) (fallOn e is f))
+        ≡ pullAnswer (pullsSince p pins (stored m₀ (writes p pins (itemsOnEdge e (l .wp) is))) (carried e p pins c is) (fallOn e is f))
     unfolding stepOf
     sample-answer s l m is w c f g h =
         rw (g .wires-are, held-edge s l) (edge-answer s l m is c f (g .memory-is) h (edgeOf (s .pulling) (s .last) l))
@@ -173,5 +172,5 @@ module _ (p : Part) (pins : ℕ) (m₀ : List ℕ) where
 
     -- power on
     pub power-shows : (l : Levels) (a : ℕ) (is : List Item)
-        → Shows (record { last = l; pulling = false; buffer = unusedAt a; phase = Rest }) (idle ∷ is) (unusedAt a) none
+        → Shows (record { last = l; pulling = false; buffer = unusedAt a; phase = Rest }) (idle ∷ is) (unusedAt a) noFall
     power-shows l a is = record { led = (refl, refl); within = tt; pulling-is = refl }

@@ -21,7 +21,7 @@ use Rattle.transfer.specs.Buffer.{bufferAfter}
 use Rattle.transfer.specs.Phase.{afterRise}
 use Rattle.i2c.specs.Store.{riseWrite}
 use Rattle.ledger.specs.Stores.{stored}
-use Rattle.ledger.specs.I2cLedger.{Clock, Item, idle, span, withClock, noted, Wires, wiresAt, edgeBetween, writes}
+use Rattle.ledger.specs.I2cLedger.{Clock, Item, idle, span, withClock, itemsOnEdge, Wires, wiresAt, edgeBetween, writes}
 use Rattle.ledger.proofs.StoreLaws.{stored-append, applied-stored}
 use Rattle.ledger.proofs.WordLaws.{Wired}
 use Rattle.ledger.proofs.I2cReads.{after, after-more, wrote-more, span-wrote}
@@ -29,8 +29,8 @@ use Rattle.ledger.proofs.I2cReads.{after, after-more, wrote-more, span-
 -- ---- the edge that the part goes by is the one that the wires show
 
 -- the wires' line is the part's, where the answer tells of its pull
-pub line-heard : (l : Levels) (pulling : Bool) → wiresAt l (answerNumber (answerOf pulling)) .line ≡ lineOf (l .sda) pulling
-line-heard l pulling = by (l .sda) pulling
+pub line-is : (l : Levels) (pulling : Bool) → wiresAt l (answerNumber (answerOf pulling)) .line ≡ lineOf (l .sda) pulling
+line-is l pulling = by (l .sda) pulling
   where
     by : (x q : Bool) → wiresAt (record { scl = l .scl; sda = x; wp = l .wp }) (answerNumber (answerOf q)) .line ≡ lineOf x q
     by true true = refl
@@ -66,7 +66,7 @@ module _ (p : Part) (pins : ℕ) (m : List ℕ) where
       → let e : Edge = edgeOf (s .pulling) (s .last) l in
       edgeBetween (wiresAt (s .last) (answerNumber (answerOf (s .pulling)))) (wiresAt l (answerNumber (stepOn e p pins s l m .answer))) ≡ e
   same-edge s l =
-      rw (answer-is (edgeOf (s .pulling) (s .last) l) s l, line-heard (s .last), line-heard l)
+      rw (answer-is (edgeOf (s .pulling) (s .last) l) s l, line-is (s .last), line-is l)
       (same-pull (s .last .scl) (l .scl) (s .pulling) (s .last .sda) (l .sda) (s .last .wp) (l .wp) (s .buffer) (s .phase))
 
 -- ---- agreement
@@ -102,7 +102,7 @@ module _ (p : Part) (pins : ℕ) (m₀ : List ℕ) where
   module _ (wired : Wired p pins) (s : I2c) (l : Levels) (m : List ℕ) (is : List Item) (i : m ≡ stored m₀ (writes p pins is)) (j : Led (s .phase) (s .buffer) is) where
     on-edge : (e : Edge)
         → let o : Outcome = stepOn e p pins s l m in
-        Good (o .i2c) (applied (o .write) m) (noted e (l .wp) is) (wiresAt l (answerNumber (o .answer)))
+        Good (o .i2c) (applied (o .write) m) (itemsOnEdge e (l .wp) is) (wiresAt l (answerNumber (o .answer)))
     on-edge Start = record { memory-is = rw append-nil i; led = (s .buffer, refl); wires-are = refl }
     on-edge Stop = record { memory-is = i; led = refl; wires-are = refl }
     on-edge (Rise line) =
@@ -114,7 +114,7 @@ module _ (p : Part) (pins : ℕ) (m₀ : List ℕ) where
   pub sample-good : Wired p pins → (s : I2c) (l : Levels) (m : List ℕ) (is : List Item) (w : Wires) → Good s m is w
       → let o : Outcome = stepOf p pins s l m in
       let w′ : Wires = wiresAt l (answerNumber (o .answer)) in
-      Good (o .i2c) (applied (o .write) m) (noted (edgeBetween w w′) (l .wp) is) w′
+      Good (o .i2c) (applied (o .write) m) (itemsOnEdge (edgeBetween w w′) (l .wp) is) w′
   unfolding stepOf
   sample-good wired s l m is w g =
       rw (g .wires-are, same-edge p pins m s l) (on-edge wired s l m is (g .memory-is) (g .led) (edgeOf (s .pulling) (s .last) l))

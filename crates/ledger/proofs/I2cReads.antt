@@ -16,11 +16,11 @@ use Rattle.transfer.specs.declared.buffer.AddressBuffer.{AddressBuffer}
 use Rattle.transfer.specs.declared.phase.Field.{Field}
 use Rattle.transfer.specs.declared.phase.Field.the-variants.{Word, HighByte, LowByte, Data}
 use Rattle.transfer.specs.declared.phase.Phase.{Phase}
-use Rattle.transfer.specs.declared.phase.Phase.the-variants.{Deaf, Taking, Sending}
+use Rattle.transfer.specs.declared.phase.Phase.the-variants.{Ignoring, Taking, Sending}
 use Rattle.transfer.specs.declared.word.DeviceWord.{DeviceWord}
 use Rattle.transfer.specs.declared.word.DeviceWord.the-variants.{ReadWord, WriteWord, OtherWord}
-use Rattle.transfer.specs.Buffer.{joined, fieldBuffer, bufferAfter}
-use Rattle.transfer.specs.Phase.{begun, finished, afterRise}
+use Rattle.transfer.specs.Buffer.{addressOfBytes, fieldBuffer, bufferAfter}
+use Rattle.transfer.specs.Phase.{phaseAfterWord, phaseAfterByte, afterRise}
 use Rattle.i2c.specs.Store.{fieldWrite, riseWrite}
 use Rattle.transfer.specs.Word.{wordOf}
 use Rattle.ledger.specs.Stores.{Store}
@@ -82,18 +82,18 @@ module _ (p : Part) (pins : ℕ) where
 
   -- ---- a part that does not take bytes in writes nothing
 
-  deaf-wrote : (b : AddressBuffer) (ks : List Clock) → wrote Deaf b ks ≡ []
-  deaf-wrote b [] = refl
-  deaf-wrote b (k ∷ ks) = deaf-wrote b ks
+  ignoring-wrote : (b : AddressBuffer) (ks : List Clock) → wrote Ignoring b ks ≡ []
+  ignoring-wrote b [] = refl
+  ignoring-wrote b (k ∷ ks) = ignoring-wrote b ks
 
   sending-wrote : (ks : List Clock) (a n : ℕ) (b : AddressBuffer) → wrote (Sending a n) b ks ≡ []
   sending-wrote [] a n b = refl
   sending-wrote (k ∷ ks) a n b = by (sending-wrote ks) (ltb n 8) (k .line) (bufferAfter p b (Sending a n))
     where
       by : ((x y : ℕ) (c : AddressBuffer) → wrote (Sending x y) c ks ≡ [])
-          → (t u : Bool) (c : AddressBuffer) → wrote (cond t (Sending a (n + 1)) (cond u Deaf (Sending (nextAddress (p .size) a) 0))) c ks ≡ []
+          → (t u : Bool) (c : AddressBuffer) → wrote (cond t (Sending a (n + 1)) (cond u Ignoring (Sending (nextAddress (p .size) a) 0))) c ks ≡ []
       by rest true u c = rest a (n + 1) c
-      by rest false true c = deaf-wrote c ks
+      by rest false true c = ignoring-wrote c ks
       by rest false false c = rest (nextAddress (p .size) a) 0 c
 
   -- ---- a part that takes bytes in writes what the ledger places
@@ -103,7 +103,7 @@ module _ (p : Part) (pins : ℕ) where
   fieldStores Word vs = stores p pins vs
   fieldStores (HighByte a16) vs = written p a16 vs
   fieldStores (LowByte a16 high) [] = []
-  fieldStores (LowByte a16 high) (low ∷ vs) = placed p (joined p a16 high (value low)) vs
+  fieldStores (LowByte a16 high) (low ∷ vs) = placed p (addressOfBytes p a16 high (value low)) vs
   fieldStores (Data a) vs = placed p a vs
 
   no-byte : (f : Field) → [] ≡ fieldStores f []
@@ -125,16 +125,16 @@ module _ (p : Part) (pins : ℕ) where
   module _ (wired : Wired p pins) where
     -- a whole byte, given what the clocks after it write
     module _ (ks : List Clock) (vs : List Byte) (rest : (f : Field) (b : AddressBuffer) → wrote (Taking f 0 0) b ks ≡ fieldStores f vs) where
-      by-word : (b : AddressBuffer) (w : DeviceWord) → wrote (begun p b w) b ks ≡ byWord p w vs
+      by-word : (b : AddressBuffer) (w : DeviceWord) → wrote (phaseAfterWord p b w) b ks ≡ byWord p w vs
       by-word b (ReadWord a16) = sending-wrote ks _ 0 b
       by-word b (WriteWord a16) = rest (HighByte a16) b
-      by-word b OtherWord = deaf-wrote b ks
+      by-word b OtherWord = ignoring-wrote b ks
 
       by-field : (f : Field) (b : AddressBuffer) (v : Byte) → length (v .bits) ≡ 8 → Eights vs
-          → storesOf (fieldWrite f (value v) (v .wp)) ++ wrote (finished p pins b f (value v)) (fieldBuffer p b f (value v)) ks ≡ fieldStores f (v ∷ vs)
+          → storesOf (fieldWrite f (value v) (v .wp)) ++ wrote (phaseAfterByte p pins b f (value v)) (fieldBuffer p b f (value v)) ks ≡ fieldStores f (v ∷ vs)
       by-field Word b v h hs = rw (word-in p pins wired (v .bits) h) (by-word b (wordOf p pins (value v)))
       by-field (HighByte a16) b v h hs = rest (LowByte a16 (value v)) b ∙ after-high a16 v vs h hs
-      by-field (LowByte a16 high) b v h hs = rest (Data (joined p a16 high (value v))) _
+      by-field (LowByte a16 high) b v h hs = rest (Data (addressOfBytes p a16 high (value v))) _
       by-field (Data a) b v h hs = after-data a (value v) (v .wp) (rest (Data (nextAddress (p .size) a)) _)
 
     -- with the rises xs of a byte over, n of them, and r more before its ninth

@@ -14,7 +14,7 @@ use Rattle.i2c.specs.Pull.{ours}
 use Rattle.ledger.specs.Word.{wordIn}
 use Rattle.ledger.specs.History.{Entry}
 use Rattle.ledger.specs.I2cLedger.{Clock, Byte, bytes, unfinished, wiresAt, edgeBetween, lastWires, items}
-use Rattle.ledger.specs.I2cAnswers.{eighth, after, fallIn, pullsSince, memoryOf, bufferBefore, pulls, pullAnswer, presentAnswer, i2cAnswer}
+use Rattle.ledger.specs.I2cAnswers.{eighth, afterRises, fallIn, pullsSince, memoryNow, bufferBefore, pulls, pullAnswer, presentAnswer, i2cAnswer}
 
 module _ (p : Part) (pins : ℕ) (first : List ℕ) (h : List Entry) where
   -- an event after the history h, whatever answer it is entered with
@@ -44,13 +44,13 @@ module _ (p : Part) (pins : ℕ) (first : List ℕ) (h : List Entry) where
   -- at a fall of SCL the part does what the rises of the open span say
   pub fall-pulls : (x answer : ℕ) → edgeBetween (lastWires h) (wiresAt (levelsOf x) (presentAnswer h)) ≡ Fall
       → to (record { event = Sample x; answer = answer })
-      ≡ pullAnswer (pullsSince p pins (memoryOf p pins first h) (bufferBefore p pins h) (fallIn (items h)))
+      ≡ pullAnswer (pullsSince p pins (memoryNow p pins first h) (bufferBefore p pins h) (fallIn (items h)))
   fall-pulls x answer e = rw e
 
 -- after the rises ks of a span
 module _ (p : Part) (pins : ℕ) (m : List ℕ) (b : AddressBuffer) (ks : List Clock) where
   abbrev pulled : Bool
-  pulled = pullsSince p pins m b (after ks)
+  pulled = pullsSince p pins m b (afterRises ks)
 
   -- the first byte is acknowledged after its eighth rise if it is an own word
   pub word-acknowledged : bytes ks ≡ [] → eighth (unfinished ks) ≡ true → pulled ≡ ours (wordIn p pins (unfinished ks))

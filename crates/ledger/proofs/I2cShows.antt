@@ -14,11 +14,11 @@ use Rattle.serial.specs.Bits.{bitAt}
 use Rattle.transfer.specs.declared.buffer.AddressBuffer.{AddressBuffer}
 use Rattle.transfer.specs.declared.phase.Field.{Field}
 use Rattle.transfer.specs.declared.phase.Field.the-variants.{Word, HighByte, LowByte, Data}
-use Rattle.transfer.specs.declared.phase.Phase.the-variants.{Deaf, Taking, Sending}
+use Rattle.transfer.specs.declared.phase.Phase.the-variants.{Ignoring, Taking, Sending}
 use Rattle.transfer.specs.declared.word.DeviceWord.{DeviceWord}
 use Rattle.transfer.specs.declared.word.DeviceWord.the-variants.{ReadWord, WriteWord, OtherWord}
-use Rattle.transfer.specs.Buffer.{joined, readAddress, fieldBuffer}
-use Rattle.transfer.specs.Phase.{begun, finished}
+use Rattle.transfer.specs.Buffer.{addressOfBytes, readAddress, fieldBuffer}
+use Rattle.transfer.specs.Phase.{phaseAfterWord, phaseAfterByte}
 use Rattle.i2c.specs.Pull.{ours, pullsAfter}
 use Rattle.transfer.specs.Word.{wordOf}
 use Rattle.ledger.specs.Bits.{number}
@@ -44,9 +44,9 @@ module _ (p : Part) (pins : ℕ) (m : List ℕ) where
     pub pull-is : pullsAfter p pins m (o .phase) ≡ pull
     pub buffer-is : o .buffer ≡ b
 
-  deaf-told : (b : AddressBuffer) (ks : List Clock) → Told (after p pins Deaf b ks) false b
-  deaf-told b [] = record { pull-is = refl; buffer-is = refl }
-  deaf-told b (k ∷ ks) = deaf-told b ks
+  ignoring-told : (b : AddressBuffer) (ks : List Clock) → Told (after p pins Ignoring b ks) false b
+  ignoring-told b [] = record { pull-is = refl; buffer-is = refl }
+  ignoring-told b (k ∷ ks) = ignoring-told b ks
 
   -- ---- bytes that go out
 
@@ -57,10 +57,10 @@ module _ (p : Part) (pins : ℕ) (m : List ℕ) where
 
   -- the line at the ninth rise
   ninth-told : (ks : List Clock) (a : ℕ) (y : Bool) → SendingTold ks [] 0 8 (nextAddress (p .size) a) (usedAt a)
-      → Told (after p pins (cond y Deaf (Sending (nextAddress (p .size) a) 0)) (usedAt a) ks)
+      → Told (after p pins (cond y Ignoring (Sending (nextAddress (p .size) a) 0)) (usedAt a) ks)
       (cond y false (sendsLow p m (nextAddress (p .size) a) (bytes ks) (unfinished ks)))
       (cond y (usedAt a) (sentBuffer p (usedAt a) (nextAddress (p .size) a) (bytes ks)))
-  ninth-told ks a true t = deaf-told (usedAt a) ks
+  ninth-told ks a true t = ignoring-told (usedAt a) ks
   ninth-told ks a false t = t
 
   -- with fewer than nine rises over, the bits shown are those of the lines so far
@@ -92,7 +92,7 @@ module _ (p : Part) (pins : ℕ) (m : List ℕ) where
   fieldLeft Word b vs = spanBuffer p pins b vs
   fieldLeft (HighByte a16) b vs = writtenBuffer p b a16 vs
   fieldLeft (LowByte a16 high) b [] = b
-  fieldLeft (LowByte a16 high) b (low ∷ vs) = takenBuffer p (unusedAt (joined p a16 high (value low))) (joined p a16 high (value low)) vs
+  fieldLeft (LowByte a16 high) b (low ∷ vs) = takenBuffer p (unusedAt (addressOfBytes p a16 high (value low))) (addressOfBytes p a16 high (value low)) vs
   fieldLeft (Data a) b vs = takenBuffer p b a vs
 
   after-high : (a16 : Bool) (high : Byte) (b : AddressBuffer) (vs : List Byte) → length (high .bits) ≡ 8 → Eights vs
@@ -133,17 +133,17 @@ module _ (p : Part) (pins : ℕ) (m : List ℕ) where
     -- a whole byte, given where the clocks after it lead
     module _ (ks : List Clock) (rest : (f : Field) (b : AddressBuffer) → FieldTold ks [] 0 8 f b) where
       by-word : (b : AddressBuffer) (w : DeviceWord)
-          → Told (after p pins (begun p b w) b ks) (wordPulls p m b w (bytes ks) (unfinished ks)) (wordBuffer p b w (bytes ks))
+          → Told (after p pins (phaseAfterWord p b w) b ks) (wordPulls p m b w (bytes ks) (unfinished ks)) (wordBuffer p b w (bytes ks))
       by-word b (ReadWord a16) = sending-from ks [] (readAddress p b a16) b 0 8 refl refl
       by-word b (WriteWord a16) = rest (HighByte a16) b
-      by-word b OtherWord = deaf-told b ks
+      by-word b OtherWord = ignoring-told b ks
 
       by-field : (f : Field) (b : AddressBuffer) (v : Byte) → length (v .bits) ≡ 8
-          → Told (after p pins (finished p pins b f (value v)) (fieldBuffer p b f (value v)) ks) (fieldPulls f b (v ∷ bytes ks) (unfinished ks))
+          → Told (after p pins (phaseAfterByte p pins b f (value v)) (fieldBuffer p b f (value v)) ks) (fieldPulls f b (v ∷ bytes ks) (unfinished ks))
           (fieldLeft f b (v ∷ bytes ks))
       by-field Word b v h = rw (word-in p pins wired (v .bits) h) (by-word b (wordOf p pins (value v)))
       by-field (HighByte a16) b v h = rw (← after-high a16 v b (bytes ks) h (eights ks)) (rest (LowByte a16 (value v)) b)
-      by-field (LowByte a16 high) b v h = rest (Data (joined p a16 high (value v))) _
+      by-field (LowByte a16 high) b v h = rest (Data (addressOfBytes p a16 high (value v))) _
       by-field (Data a) b v h = rest (Data (nextAddress (p .size) a)) _
 
     field-from : (ks xs : List Clock) (f : Field) (b : AddressBuffer) (n r : ℕ) → n + r ≡ 8 → length xs ≡ n → FieldTold ks xs n r f b

@@ -12,7 +12,7 @@ use Rattle.transfer.specs.Levels.{levelsOf}
 use Rattle.transfer.proofs.LevelLaws.{levels-back}
 use Rattle.ledger.specs.History.{Entry}
 use Rattle.ledger.specs.Steps.{Step, sample, expected, entryOf, entered}
-use Rattle.ledger.specs.I2cLedger.{Clock, Item, idle, span, noted, Wires, wiresAt, edgeBetween, lastWires, items}
+use Rattle.ledger.specs.I2cLedger.{Clock, Item, idle, span, itemsOnEdge, Wires, wiresAt, edgeBetween, lastWires, items}
 use Rattle.ledger.specs.I2cAnswers.{LastFall, fallOn, lastFall}
 use Rattle.ledger.specs.I2cAnswers as Answers
 use Rattle.ledger.specs.Spans.{sampleByte, wiresAfter, Start, Stop, Neither, AllNeither, clocksAfter, lastFallAfter}
@@ -22,9 +22,9 @@ levels-of : (l : Levels) → levelsOf (sampleByte l) ≡ l
 levels-of l = levels-back (l .scl) (l .sda) (l .wp)
 
 -- one sample more
-one-noted : (h : List Entry) (l : Levels) (a : ℕ)
-    → items (entryOf sampleByte (sample l a) ∷ h) ≡ noted (edgeBetween (lastWires h) (wiresAt l a)) (l .wp) (items h)
-one-noted h l a = ap (λ (k : Levels). noted (edgeBetween (lastWires h) (wiresAt k a)) (k .wp) (items h)) (levels-of l)
+edge-items : (h : List Entry) (l : Levels) (a : ℕ)
+    → items (entryOf sampleByte (sample l a) ∷ h) ≡ itemsOnEdge (edgeBetween (lastWires h) (wiresAt l a)) (l .wp) (items h)
+edge-items h l a = ap (λ (k : Levels). itemsOnEdge (edgeBetween (lastWires h) (wiresAt k a)) (k .wp) (items h)) (levels-of l)
 
 one-fall : (h : List Entry) (l : Levels) (a : ℕ)
     → lastFall (entryOf sampleByte (sample l a) ∷ h) ≡ fallOn (edgeBetween (lastWires h) (wiresAt l a)) (items h) (lastFall h)
@@ -33,7 +33,7 @@ one-fall h l a = ap (λ (k : Levels). fallOn (edgeBetween (lastWires h) (wiresAt
 -- between two samples that are no START and no STOP: SCL before and now, the line before and now, WP now
 module _ (is : List Item) (ks : List Clock) where
   neither-noted : (a b x y wp : Bool) → (a ≡ true → b ≡ true → y ≡ x)
-      → noted (edgeOn a b x y) wp (span ks ∷ is) ≡ span (ks ++ cond (not a && b) (record { line = y; wp = wp } ∷ []) []) ∷ is
+      → itemsOnEdge (edgeOn a b x y) wp (span ks ∷ is) ≡ span (ks ++ cond (not a && b) (record { line = y; wp = wp } ∷ []) []) ∷ is
   neither-noted true true true y wp n = rw (n refl refl, append-nil)
   neither-noted true true false y wp n = rw (n refl refl, append-nil)
   neither-noted true false x y wp n = rw append-nil
@@ -41,7 +41,7 @@ module _ (is : List Item) (ks : List Clock) where
   neither-noted false false x y wp n = rw append-nil
 
   neither-fall : (f : LastFall) (a b x y : Bool) → (a ≡ true → b ≡ true → y ≡ x)
-      → fallOn (edgeOn a b x y) (span ks ∷ is) f ≡ cond (a && not b) (Answers.after ks) f
+      → fallOn (edgeOn a b x y) (span ks ∷ is) f ≡ cond (a && not b) (Answers.afterRises ks) f
   neither-fall f true true true y n = rw (n refl refl)
   neither-fall f true true false y n = rw (n refl refl)
   neither-fall f true false x y n = refl
@@ -52,13 +52,13 @@ module _ (is : List Item) (ks : List Clock) where
       by false = refl
 
 -- START and STOP
-start-noted : (v w : Wires) (wp : Bool) (is : List Item) → Start v w → noted (edgeBetween v w) wp is ≡ span [] ∷ is
+start-noted : (v w : Wires) (wp : Bool) (is : List Item) → Start v w → itemsOnEdge (edgeBetween v w) wp is ≡ span [] ∷ is
 start-noted v w wp is s = rw (s .scl-before, s .scl-now, s .line-before, s .line-now)
 
-stop-noted : (v w : Wires) (wp : Bool) (is : List Item) → Stop v w → noted (edgeBetween v w) wp is ≡ idle ∷ is
+stop-noted : (v w : Wires) (wp : Bool) (is : List Item) → Stop v w → itemsOnEdge (edgeBetween v w) wp is ≡ idle ∷ is
 stop-noted v w wp is s = rw (s .scl-before, s .scl-now, s .line-before, s .line-now)
 
-start-fall : (v w : Wires) (is : List Item) (f : LastFall) → Start v w → fallOn (edgeBetween v w) is f ≡ Answers.none
+start-fall : (v w : Wires) (is : List Item) (f : LastFall) → Start v w → fallOn (edgeBetween v w) is f ≡ Answers.noFall
 start-fall v w is f s = rw (s .scl-before, s .scl-now, s .line-before, s .line-now)
 
 module _ (h : List Entry) (first : Levels) (answer : ℕ) where
@@ -77,10 +77,10 @@ module _ (h : List Entry) (first : Levels) (answer : ℕ) where
   module _ (started : Start (lastWires h) begin) where
     -- a START between the last sample of h and first, and neither START nor STOP since: one span, open, with the rises since
     pub span-open : (ss : List (Step Levels)) → AllNeither begin ss → items (after ss) ≡ span (clocksAfter begin ss) ∷ items h
-    span-open [] ns = one-noted h first answer ∙ start-noted (lastWires h) begin (first .wp) (items h) started
+    span-open [] ns = edge-items h first answer ∙ start-noted (lastWires h) begin (first .wp) (items h) started
     span-open (sample l a ∷ ss) ns =
         let q = wiresAfter begin ss in
-        one-noted (after ss) l a
+        edge-items (after ss) l a
         ∙ rw (last-wires ss, span-open ss (ns .1))
         (neither-noted (items h) (clocksAfter begin ss) (q .scl) (l .scl) (q .line) (wiresAt l a .line) (l .wp) (ns .0))
     span-open (expected v a ∷ ss) ns = span-open ss ns
@@ -90,14 +90,14 @@ module _ (h : List Entry) (first : Levels) (answer : ℕ) where
       pub span-start : (last : Levels) (a : ℕ) → Start (wiresAfter begin ss) (wiresAt last a)
           → items (entryOf sampleByte (sample last a) ∷ after ss) ≡ span [] ∷ span (clocksAfter begin ss) ∷ items h
       span-start last a s =
-          one-noted (after ss) last a
+          edge-items (after ss) last a
           ∙ rw (last-wires ss, span-open ss ns) (start-noted (wiresAfter begin ss) (wiresAt last a) (last .wp) (span (clocksAfter begin ss) ∷ items h) s)
 
       -- a STOP ends it
       pub span-stop : (last : Levels) (a : ℕ) → Stop (wiresAfter begin ss) (wiresAt last a)
           → items (entryOf sampleByte (sample last a) ∷ after ss) ≡ idle ∷ span (clocksAfter begin ss) ∷ items h
       span-stop last a s =
-          one-noted (after ss) last a
+          edge-items (after ss) last a
           ∙ rw (last-wires ss, span-open ss ns) (stop-noted (wiresAfter begin ss) (wiresAt last a) (last .wp) (span (clocksAfter begin ss) ∷ items h) s)
 
       -- and so does power off

@@ -19,7 +19,7 @@ use Rattle.selection.specs.declared.opcode.Command.the-variants.{WREN, WRDI, RD
 use Rattle.transfer.specs.declared.word.DeviceWord.{DeviceWord}
 use Rattle.transfer.specs.declared.word.DeviceWord.the-variants.{ReadWord, WriteWord, OtherWord}
 use Rattle.ledger.specs.Groups.{Group, groups}
-use Rattle.ledger.specs.Bits.{numberAfter, number, Field, short, whole, field, eightBits, bytes}
+use Rattle.ledger.specs.Bits.{numberAfter, number, FieldBits, short, whole, field, eightBits, bytes}
 use Rattle.ledger.specs.Stores.{Store, lastAt, stored}
 use Rattle.ledger.specs.Word.{wordIn, addressAfter}
 use Rattle.ledger.specs.SpiLedger.{Item, powerOn, powerOff, selection, Reading, partial, command, reading, afterAddress, addressIn, dataAddress, dataBytes, enabled, SavedBits, register, bits, placed, stores, writes}
@@ -112,7 +112,7 @@ module _ (p : Part) (positive : 0 < p .size) where
         by true r = (record { inside = h; byte = hs .0 }, r)
         by false r = r
 
-    address-below : (f : Field) → addressIn p f < p .size
+    address-below : (f : FieldBits) → addressIn p f < p .size
     address-below (short xs) = positive
     address-below (whole xs rest) = mod-lt (number xs) positive
 

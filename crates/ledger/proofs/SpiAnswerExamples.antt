@@ -11,7 +11,7 @@ use Rattle.trace.specs.declared.event.Event.{Event}
 use Rattle.trace.specs.declared.event.Event.the-variants.{SpiPowerOn, Sample}
 use Rattle.selection.specs.Opcode.{commandOf}
 use Rattle.ledger.specs.History.{Entry}
-use Rattle.ledger.specs.SpiLedger.{noBits}
+use Rattle.ledger.specs.SpiLedger.{zeroBits}
 use Rattle.ledger.specs.SpiAnswers.{spiAnswer}
 
 -- an event after a history; the answers entered do not matter on SPI
@@ -47,7 +47,7 @@ powered = then [] (SpiPowerOn 25)
 -- the answers at the falls of n more clocks
 abbrev out : ℕ → Part → List ℕ → List Entry → List ℕ
 out zero p m h = []
-out (suc n) p m h = spiAnswer p noBits m (then h (Sample 24)) ∷ out n p m (clock h false)
+out (suc n) p m h = spiAnswer p zeroBits m (then h (Sample 24)) ∷ out n p m (clock h false)
 
 -- bit 7 - k of a byte
 abbrev bitOf : ℕ → ℕ → ℕ
@@ -90,9 +90,9 @@ module _ (m : List ℕ) where
   fast-after-dummy = refl
 
   -- SLEEP on part 1: the next selection shows nothing, the one after it the status
-  asleep-deaf : out 8 mr45v100a m (opening (selecting powered (0xb9 ∷ [])) (5 ∷ [])) ≡ eightNothing
+  asleep-ignoring : out 8 mr45v100a m (opening (selecting powered (0xb9 ∷ [])) (5 ∷ [])) ≡ eightNothing
   unfolding commandOf
-  asleep-deaf = refl
+  asleep-ignoring = refl
 
   awake-again : out 8 mr45v100a m (opening (selecting (selecting powered (0xb9 ∷ [])) (5 ∷ [])) (5 ∷ [])) ≡ eight 0
   unfolding commandOf

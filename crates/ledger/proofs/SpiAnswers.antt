@@ -18,7 +18,7 @@ use Rattle.selection.specs.declared.edge.Edge.{Edge}
 use Rattle.selection.specs.declared.edge.Edge.the-variants.{Select, Deselect, Rise, Fall, Quiet}
 use Rattle.selection.specs.declared.levels.Levels.{Levels}
 use Rattle.selection.specs.declared.phase.Phase.{Phase}
-use Rattle.selection.specs.declared.phase.Phase.the-variants.{Rest, Deaf, Taking, Showing, Waiting}
+use Rattle.selection.specs.declared.phase.Phase.the-variants.{Rest, Ignoring, Taking, Showing, Waiting}
 use Rattle.spi.specs.declared.sample.Spi.{Spi}
 use Rattle.selection.specs.Edge.{edgeOf}
 use Rattle.selection.specs.Phase.{nextSource, afterRise}
@@ -26,14 +26,14 @@ use Rattle.spi.specs.Sample.{stepOn, stepOf}
 use Rattle.spi.specs.Show.{afterFall, answerAt}
 use Rattle.spi.specs.Store.{riseWrite}
 use Rattle.ledger.specs.SpiLedger.{unended, ended, Item, powerOn, powerOff, selection, asleep, SavedBits}
-use Rattle.ledger.specs.SpiAnswers.{LastFall, noFall, fallAfter, fallIn, fallOn, fallShows, unlessHeld}
+use Rattle.ledger.specs.SpiAnswers.{LastFall, noFall, afterRises, fallIn, fallOn, fallShows, unlessHeld}
 use Rattle.ledger.proofs.SpiFits.{atPower, opened, phaseNow, Good}
 use Rattle.ledger.proofs.SpiSources.{phaseShows}
 use Rattle.ledger.proofs.SpiShows.{selection-shows}
 
 abbrev pub isShowing : Phase → Bool
 isShowing Rest = false
-isShowing Deaf = false
+isShowing Ignoring = false
 isShowing (Taking f n v) = false
 isShowing (Showing s k) = true
 isShowing (Waiting a) = false
@@ -67,7 +67,7 @@ module _ (p : Part) where
   -- output goes on to the end of the selection
   goes-on : (ph : Phase) (x : Bool) → isShowing (afterRise p ph x) ≡ false → isShowing ph ≡ false
   goes-on Rest x h = refl
-  goes-on Deaf x h = refl
+  goes-on Ignoring x h = refl
   goes-on (Taking f n v) x h = refl
   goes-on (Showing s k) x h = by (ltb k 7) h
     where
@@ -79,7 +79,7 @@ module _ (p : Part) where
   -- and stores nothing
   no-write : (st : Status) (ph : Phase) (x : Bool) → isShowing ph ≡ true → riseWrite p st ph x ≡ Nothing
   no-write st Rest x h = refl
-  no-write st Deaf x h = refl
+  no-write st Ignoring x h = refl
   no-write st (Taking f n v) x h = absurd (false≢true h)
   no-write st (Showing s k) x h = refl
   no-write st (Waiting a) x h = refl
@@ -95,14 +95,14 @@ module _ (p : Part) where
   fall-shows : (fit : Fit p) (st : Status) (m : List ℕ) (ph : Phase) (old : Answer) → (isShowing ph ≡ false → answerNumber old ≡ 2)
       → answerNumber (afterFall p st m ph old) ≡ phaseShows p (fit .positive) st m ph
   fall-shows fit st m Rest old h = h refl
-  fall-shows fit st m Deaf old h = h refl
+  fall-shows fit st m Ignoring old h = h refl
   fall-shows fit st m (Taking f n v) old h = h refl
   fall-shows fit st m (Showing s k) old h = refl
   fall-shows fit st m (Waiting a) old h = h refl
 
   silent-shows : (fit : Fit p) (st : Status) (m : List ℕ) (ph : Phase) → isShowing ph ≡ false → phaseShows p (fit .positive) st m ph ≡ 2
   silent-shows fit st m Rest h = refl
-  silent-shows fit st m Deaf h = refl
+  silent-shows fit st m Ignoring h = refl
   silent-shows fit st m (Taking f n v) h = refl
   silent-shows fit st m (Showing s k) h = absurd (false≢true (sym h))
   silent-shows fit st m (Waiting a) h = refl
@@ -113,7 +113,7 @@ module _ (p : Part) where
     power-shows false = refl
 
     opened-shows : (y : Bool) (bs : List Bool)
-        → phaseShows p (fit .positive) st m (opened p y bs) ≡ fallShows p st m (cond y noFall (fallAfter bs))
+        → phaseShows p (fit .positive) st m (opened p y bs) ≡ fallShows p st m (cond y noFall (afterRises bs))
     opened-shows true bs = refl
     opened-shows false bs = selection-shows p (fit .positive) st m (fit .wide) bs
 

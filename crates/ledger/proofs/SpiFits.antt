@@ -14,7 +14,7 @@ use Rattle.selection.specs.declared.edge.Edge.{Edge}
 use Rattle.selection.specs.declared.levels.Levels.{Levels}
 use Rattle.selection.specs.declared.phase.Field.the-variants.{Opcode}
 use Rattle.selection.specs.declared.phase.Phase.{Phase}
-use Rattle.selection.specs.declared.phase.Phase.the-variants.{Rest, Deaf, Taking}
+use Rattle.selection.specs.declared.phase.Phase.the-variants.{Rest, Ignoring, Taking}
 use Rattle.spi.specs.declared.sample.Spi.{Spi}
 use Rattle.spi_status.specs.Deselect.{statusAfter, asleepAfter}
 use Rattle.selection.specs.Edge.{clockEdge, selectEdge, edgeOf}
@@ -23,19 +23,19 @@ use Rattle.spi.specs.Sample.{selected, stepOn, stepOf}
 use Rattle.spi.specs.Show.{afterFall}
 use Rattle.spi.specs.Store.{riseWrite}
 use Rattle.ledger.specs.Stores.{stored}
-use Rattle.ledger.specs.SpiLedger.{unended, ended, Item, powerOn, powerOff, selection, withBit, closed, noted, reading, isSleep, asleep, heard, enabled, SavedBits, register, bits, writes}
+use Rattle.ledger.specs.SpiLedger.{unended, ended, Item, powerOn, powerOff, selection, withBit, closed, itemsOnEdge, reading, isSleep, asleep, withoutIgnored, enabled, SavedBits, register, bits, writes}
 use Rattle.ledger.proofs.Folds.{after-snoc}
 use Rattle.ledger.proofs.StoreLaws.{applied-after}
 use Rattle.ledger.proofs.SpiReads.{phaseAfter, Effect, no-stores, selection-does, stores-snoc}
 
--- at power on, and wherever no selection is open: at rest, or deaf until CS# has been 1
+-- at power on, and wherever no selection is open: at rest, or ignoring the bus until CS# has been 1
 abbrev pub atPower : Bool → Phase
 atPower true = Rest
-atPower false = Deaf
+atPower false = Ignoring
 
--- the phase of a selection with these bits, deaf (y) or not
+-- the phase of a selection with these bits, ignored (y) or not
 abbrev pub opened : Part → Bool → List Bool → Phase
-opened p y bs = cond y Deaf (phaseAfter p (Taking Opcode 0 0) bs)
+opened p y bs = cond y Ignoring (phaseAfter p (Taking Opcode 0 0) bs)
 
 -- the phase that the items stand for, with CS# at the last sample
 abbrev pub phaseNow : Part → Bool → List Item → Phase
@@ -56,13 +56,13 @@ Rested cs (selection bs (ended wp) ∷ is) = cs ≡ true
 module _ (p : Part) (made : SavedBits) (m₀ : List ℕ) where
   -- memory, status register, sleep and phase as the items say
   pub record Good (st : Status) (s : Spi) (m : List ℕ) (is : List Item) : Type 0 where
-    pub memory-is : m ≡ stored m₀ (writes p made (heard p is))
-    pub status-is : st ≡ register (bits p made (heard p is)) (enabled p (heard p is))
+    pub memory-is : m ≡ stored m₀ (writes p made (withoutIgnored p is))
+    pub status-is : st ≡ register (bits p made (withoutIgnored p is)) (enabled p (withoutIgnored p is))
     pub sleep-is : s .asleep ≡ asleep p is
     pub phase-is : s .phase ≡ phaseNow p (s .last .cs) is
     pub rested : Rested (s .last .cs) is
 
-  -- ---- memory and status register, by the items heard (hs) before a selection that is deaf (y) or not
+  -- ---- memory and status register, by the items that count (hs) before a selection that is ignored (y) or not
 
   abbrev Agrees : Status → List ℕ → List Item → Type 0
   Agrees st m hs = (m ≡ stored m₀ (writes p made hs)) × (st ≡ register (bits p made hs) (enabled p hs))
@@ -110,7 +110,7 @@ module _ (p : Part) (made : SavedBits) (m₀ : List ℕ) where
 
     select-good : (is : List Item) → Good st s m is → Good st (next (s .asleep) HighZ (selected (s .asleep))) m (selection [] unended ∷ is)
     select-good is g =
-        let a = select-agrees wide st m (heard p is) (asleep p is) (g .memory-is, g .status-is) in
+        let a = select-agrees wide st m (withoutIgnored p is) (asleep p is) (g .memory-is, g .status-is) in
         record {
           memory-is = a .0;
           status-is = a .1;
@@ -129,19 +129,19 @@ module _ (p : Part) (made : SavedBits) (m₀ : List ℕ) where
       RiseGood is is′ =
           Good st s m is → Good st (next (s .asleep) (s .shown) (afterRise p (s .phase) x)) (applied (riseWrite p st (s .phase) x) m) is′
 
-      -- where no selection is open: the part is deaf
-      rise-deaf : (is : List Item) → phaseNow p false is ≡ Deaf → RiseGood is is
-      rise-deaf is deaf g =
-          let q : s .phase ≡ Deaf = g .phase-is ∙ ap (λ (c : Bool). phaseNow p c is) low ∙ deaf in
+      -- where no selection is open: the part ignores the bus
+      rise-ignoring : (is : List Item) → phaseNow p false is ≡ Ignoring → RiseGood is is
+      rise-ignoring is ignoring g =
+          let q : s .phase ≡ Ignoring = g .phase-is ∙ ap (λ (c : Bool). phaseNow p c is) low ∙ ignoring in
           rw q (rw q at (stay (s .shown) is (low ∙ sym low′) g))
 
       rise-good : (is : List Item) → RiseGood is (withBit x is)
-      rise-good [] g = rise-deaf [] refl g
-      rise-good (powerOn ∷ is) g = rise-deaf (powerOn ∷ is) refl g
-      rise-good (powerOff ∷ is) g = rise-deaf (powerOff ∷ is) refl g
-      rise-good (selection bs (ended wp) ∷ is) g = rise-deaf (selection bs (ended wp) ∷ is) refl g
+      rise-good [] g = rise-ignoring [] refl g
+      rise-good (powerOn ∷ is) g = rise-ignoring (powerOn ∷ is) refl g
+      rise-good (powerOff ∷ is) g = rise-ignoring (powerOff ∷ is) refl g
+      rise-good (selection bs (ended wp) ∷ is) g = rise-ignoring (selection bs (ended wp) ∷ is) refl g
       rise-good (selection bs unended ∷ is) g =
-          let a = rise-agrees wide st m (heard p is) (asleep p is) bs x (g .memory-is, g .status-is) in
+          let a = rise-agrees wide st m (withoutIgnored p is) (asleep p is) bs x (g .memory-is, g .status-is) in
           record {
             memory-is = rw (g .phase-is) (a .0);
             status-is = a .1;
@@ -160,10 +160,10 @@ module _ (p : Part) (made : SavedBits) (m₀ : List ℕ) where
       EndGood is is′ =
           Good st s m is → Good (statusAfter st (l .wp) (s .phase)) (next (asleepAfter (s .asleep) (s .phase)) HighZ Rest) m is′
 
-      -- where no selection is open: nothing was heard
-      end-deaf : (is : List Item) → ((c : Bool) → phaseNow p c is ≡ atPower c) → asleep p is ≡ false → Rested (l .cs) is → EndGood is is
-      end-deaf is power awake t g =
-          let q : s .phase ≡ Deaf = g .phase-is ∙ power (s .last .cs) ∙ ap atPower low in
+      -- where no selection is open: nothing was taken
+      end-ignoring : (is : List Item) → ((c : Bool) → phaseNow p c is ≡ atPower c) → asleep p is ≡ false → Rested (l .cs) is → EndGood is is
+      end-ignoring is power awake t g =
+          let q : s .phase ≡ Ignoring = g .phase-is ∙ power (s .last .cs) ∙ ap atPower low in
           record {
             memory-is = g .memory-is;
             status-is = rw q (g .status-is);
@@ -173,12 +173,12 @@ module _ (p : Part) (made : SavedBits) (m₀ : List ℕ) where
           }
 
       end-good : (is : List Item) → EndGood is (closed (l .wp) is)
-      end-good [] g = end-deaf [] (λ c. refl) refl tt g
-      end-good (powerOn ∷ is) g = end-deaf (powerOn ∷ is) (λ c. refl) refl tt g
-      end-good (powerOff ∷ is) g = end-deaf (powerOff ∷ is) (λ c. refl) refl tt g
+      end-good [] g = end-ignoring [] (λ c. refl) refl tt g
+      end-good (powerOn ∷ is) g = end-ignoring (powerOn ∷ is) (λ c. refl) refl tt g
+      end-good (powerOff ∷ is) g = end-ignoring (powerOff ∷ is) (λ c. refl) refl tt g
       end-good (selection bs (ended wp) ∷ is) g = absurd (false≢true (sym low ∙ g .rested))
       end-good (selection bs unended ∷ is) g =
-          let a = end-agrees wide st m (heard p is) (asleep p is) bs (l .wp) (g .memory-is, g .status-is) in
+          let a = end-agrees wide st m (withoutIgnored p is) (asleep p is) bs (l .wp) (g .memory-is, g .status-is) in
           record {
             memory-is = a .0;
             status-is = rw (g .phase-is) (a .1);
@@ -192,7 +192,7 @@ module _ (p : Part) (made : SavedBits) (m₀ : List ℕ) where
     module _ (is : List Item) (g : Good st s m is) where
       abbrev GoodOn : Edge → Type 0
       GoodOn e =
-          Good (stepOn e p st s l m .status) (stepOn e p st s l m .spi) (applied (stepOn e p st s l m .write) m) (noted e (l .wp) is)
+          Good (stepOn e p st s l m .status) (stepOn e p st s l m .spi) (applied (stepOn e p st s l m .write) m) (itemsOnEdge e (l .wp) is)
 
       edge-good : (c c′ h h′ k k′ x : Bool) → s .last .cs ≡ c → l .cs ≡ c′ → GoodOn (selectEdge c c′ (clockEdge h h′ k k′ x))
       edge-good true true h h′ k k′ x q q′ = stay (s .shown) is (q ∙ sym q′) g
@@ -207,13 +207,13 @@ module _ (p : Part) (made : SavedBits) (m₀ : List ℕ) where
 
   pub sample-good : Fit p → (st : Status) (s : Spi) (l : Levels) (m : List ℕ) (is : List Item) → Good st s m is
       → Good (stepOf p st s l m .status) (stepOf p st s l m .spi) (applied (stepOf p st s l m .write) m)
-      (noted (edgeOf (s .last) l) (l .wp) is)
+      (itemsOnEdge (edgeOf (s .last) l) (l .wp) is)
   unfolding stepOf
   sample-good fit st s l m is g =
       edge-good (fit .wide) st s l m is g (s .last .cs) (l .cs) (s .last .hold) (l .hold) (s .last .sck) (l .sck) (l .si) refl refl
 
   -- power on, where memory and saved bits are the ledger's
   pub power-good : (l : Levels) (b : SavedBits) (m : List ℕ) (is : List Item)
-      → m ≡ stored m₀ (writes p made (heard p is)) → b ≡ bits p made (heard p is)
+      → m ≡ stored m₀ (writes p made (withoutIgnored p is)) → b ≡ bits p made (withoutIgnored p is)
       → Good (register b false) (record { last = l; asleep = false; shown = HighZ; phase = atPower (l .cs) }) m (powerOn ∷ is)
   power-good l b m is q q′ = record { memory-is = q; status-is = rw q′; sleep-is = refl; phase-is = refl; rested = tt }

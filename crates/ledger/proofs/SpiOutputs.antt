@@ -13,7 +13,7 @@ use Rattle.parts.specs.declared.status.Status.{Status}
 use Rattle.parts.specs.Status.{statusByte}
 use Rattle.selection.specs.declared.opcode.Command.{Command}
 use Rattle.selection.specs.declared.opcode.Command.the-variants.{RDSR, READ}
-use Rattle.ledger.specs.Bits.{number, Field as Bits, short, whole, put, field}
+use Rattle.ledger.specs.Bits.{number, FieldBits, short, whole, put, field}
 use Rattle.ledger.specs.SpiLedger.{Reading, partial, command, opcodeRead, reading}
 use Rattle.ledger.specs.SpiAnswers.{readShows}
 use Rattle.ledger.proofs.SpiShows.{Counted, counted}
@@ -29,11 +29,11 @@ extended ys partial = partial
 extended ys (command k rest) = command k (rest ++ ys)
 
 -- more bits go to the rest of a whole field
-abbrev Extends : List Bool → Bits → Bits → Type 0
+abbrev Extends : List Bool → FieldBits → FieldBits → Type 0
 Extends ys (short xs) z = Unit {0}
 Extends ys (whole xs rest) z = z ≡ whole xs (rest ++ ys)
 
-extends-put : (ys : List Bool) (x : Bool) (y z : Bits) → Extends ys y z → Extends ys (put x y) (put x z)
+extends-put : (ys : List Bool) (x : Bool) (y z : FieldBits) → Extends ys y z → Extends ys (put x y) (put x z)
 extends-put ys x (short xs) z h = tt
 extends-put ys x (whole xs rest) z h = ap (put x) h
 
@@ -47,7 +47,7 @@ pub reading-more : (p : Part) (bs : List Bool) (k : Command) (rest ys : List Boo
     → reading p (bs ++ ys) ≡ command k (rest ++ ys)
 reading-more p bs k rest ys q = by (field 8 bs) (extends 8 bs ys) q
   where
-    by : (y : Bits) → Extends ys y (field 8 (bs ++ ys)) → opcodeRead p y ≡ command k rest → reading p (bs ++ ys) ≡ command k (rest ++ ys)
+    by : (y : FieldBits) → Extends ys y (field 8 (bs ++ ys)) → opcodeRead p y ≡ command k rest → reading p (bs ++ ys) ≡ command k (rest ++ ys)
     by (short xs) e h = let z : _≡_ {A = ℕ} 0 1 = cc in absurd (omega arith)
     by (whole xs more) e h = rw e (ap (extended ys) h)
 
@@ -55,7 +55,7 @@ reading-more p bs k rest ys q = by (field 8 bs) (extends 8 bs ys) q
 pub reading-length : (p : Part) (bs : List Bool) (k : Command) (rest : List Bool) → reading p bs ≡ command k rest → length bs ≡ 8 + length rest
 reading-length p bs k rest q = by (field 8 bs) (counted 8 bs) q
   where
-    by : (y : Bits) → Counted 8 bs y → opcodeRead p y ≡ command k rest → length bs ≡ 8 + length rest
+    by : (y : FieldBits) → Counted 8 bs y → opcodeRead p y ≡ command k rest → length bs ≡ 8 + length rest
     by (short xs) c e = let z : _≡_ {A = ℕ} 0 1 = cc in absurd (omega arith)
     by (whole xs more) c e = let z : more ≡ rest = cc in c ∙ ap (λ (l : List Bool). 8 + length l) z
 

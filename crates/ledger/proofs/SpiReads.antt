@@ -21,14 +21,14 @@ use Rattle.selection.specs.declared.phase.Action.the-variants.{SetLatch, ClearL
 use Rattle.selection.specs.declared.phase.Field.{Field}
 use Rattle.selection.specs.declared.phase.Field.the-variants.{Opcode, ReadAddress, FastAddress, WriteAddress, Dummy, Data, StatusByte}
 use Rattle.selection.specs.declared.phase.Phase.{Phase}
-use Rattle.selection.specs.declared.phase.Phase.the-variants.{Deaf, Taking, Showing, Waiting}
+use Rattle.selection.specs.declared.phase.Phase.the-variants.{Ignoring, Taking, Showing, Waiting}
 use Rattle.selection.specs.declared.phase.Source.{Source}
 use Rattle.selection.specs.declared.phase.Source.the-variants.{Memory, Register, Identity}
 use Rattle.spi_status.specs.Deselect.{fieldStatus, statusAfter, sleeps}
 use Rattle.selection.specs.Opcode.{commandOf}
-use Rattle.selection.specs.Phase.{width, begun, filled, nextSource, afterRise}
+use Rattle.selection.specs.Phase.{width, phaseAfterOpcode, phaseAfterField, nextSource, afterRise}
 use Rattle.spi.specs.Store.{permitted, fieldWrite, riseWrite}
-use Rattle.ledger.specs.Bits.{numberAfter, number, Field as Bits, short, whole, put, field, eightBits, bytes}
+use Rattle.ledger.specs.Bits.{numberAfter, number, FieldBits, short, whole, put, field, eightBits, bytes}
 use Rattle.ledger.specs.Groups.{groupsFrom}
 use Rattle.ledger.specs.Stores.{Store}
 use Rattle.ledger.specs.SpiLedger.{Reading, command, opcodeRead, reading, afterAddress, addressIn, isSleep, unlessAny, enableAfter, SavedBits, bitsIn, register, statusWrite, bitsAfter, placed, stores}
@@ -101,9 +101,9 @@ module _ (p : Part) (b : SavedBits) (e wp : Bool) where
 
   -- ---- phases in which bits change nothing
 
-  deaf : (bs : List Bool) → does Deaf bs ≡ none
-  deaf [] = refl
-  deaf (x ∷ bs) = deaf bs
+  ignoring : (bs : List Bool) → does Ignoring bs ≡ none
+  ignoring [] = refl
+  ignoring (x ∷ bs) = ignoring bs
 
   waiting : (a : Action) (bs : List Bool) → does (Waiting a) bs ≡ does (Waiting a) []
   waiting a [] = refl
@@ -121,11 +121,11 @@ module _ (p : Part) (b : SavedBits) (e wp : Bool) where
   -- ---- a field, all but a data byte: short of its width it does nothing, and whole it begins what follows
 
   module _ (f : Field) (still : (n v : ℕ) (x : Bool) → fieldWrite p (register b e) f n v x ≡ Nothing) where
-    abbrev taken : ℕ → Bits → Effect
+    abbrev taken : ℕ → FieldBits → Effect
     taken v (short xs) = does (Taking f 0 0) []
-    taken v (whole xs rest) = does (filled p f (numberAfter v xs)) rest
+    taken v (whole xs rest) = does (phaseAfterField p f (numberAfter v xs)) rest
 
-    taken-put : (v : ℕ) (x : Bool) (bs : Bits) → taken v (put x bs) ≡ taken (shifted v x) bs
+    taken-put : (v : ℕ) (x : Bool) (bs : FieldBits) → taken v (put x bs) ≡ taken (shifted v x) bs
     taken-put v x (short xs) = refl
     taken-put v x (whole xs rest) = refl
 
@@ -143,11 +143,11 @@ module _ (p : Part) (b : SavedBits) (e wp : Bool) where
     from-start wide bs = taking (width p f) 0 0 bs wide (omega arith)
 
     -- a field of a command that only shows
-    idle : 0 < width p f → fieldStatus (register b e) f ≡ register b e → ((v : ℕ) (rest : List Bool) → does (filled p f v) rest ≡ none)
+    idle : 0 < width p f → fieldStatus (register b e) f ≡ register b e → ((v : ℕ) (rest : List Bool) → does (phaseAfterField p f v) rest ≡ none)
         → (bs : List Bool) → does (Taking f 0 0) bs ≡ none
     idle wide same next bs = from-start wide bs ∙ by (field (width p f) bs)
       where
-        by : (y : Bits) → taken 0 y ≡ none
+        by : (y : FieldBits) → taken 0 y ≡ none
         by (short xs) = rw same
         by (whole xs rest) = next (number xs) rest
 
@@ -181,7 +181,7 @@ module _ (p : Part) (b : SavedBits) (e wp : Bool) where
   status-byte : (bs : List Bool) → does (Taking StatusByte 0 0) bs ≡ says (command WRSR bs)
   status-byte bs = from-start StatusByte (λ n v x. refl) (omega arith) bs ∙ rw (first-byte bs) (by (field 8 bs))
     where
-      by : (y : Bits) → taken StatusByte (λ n v x. refl) 0 y ≡ record { status = register (statusWrite (firstBytes [] y) e wp b) (unlessAny (firstBytes [] y) e); sleep = false; stores = cond e [] [] }
+      by : (y : FieldBits) → taken StatusByte (λ n v x. refl) 0 y ≡ record { status = register (statusWrite (firstBytes [] y) e wp b) (unlessAny (firstBytes [] y) e); sleep = false; stores = cond e [] [] }
       by (short xs) = rw no-stores
       by (whole xs rest) = waiting (WriteStatus (number xs)) rest ∙ rw (no-stores, either-bits _ (bitsIn (number xs)) b)
 
@@ -194,11 +194,11 @@ module _ (p : Part) (b : SavedBits) (e wp : Bool) where
     write : (bs : List Bool) → does (Taking WriteAddress 0 0) bs ≡ says (command WRITE bs)
     write bs = from-start WriteAddress (λ n v x. refl) wide bs ∙ by (field (p .width) bs)
       where
-        by : (y : Bits) → taken WriteAddress (λ n v x. refl) 0 y ≡ saysData (addressIn p y) false (bytes (afterAddress y))
+        by : (y : FieldBits) → taken WriteAddress (λ n v x. refl) 0 y ≡ saysData (addressIn p y) false (bytes (afterAddress y))
         by (short xs) = rw no-stores
         by (whole xs rest) = data-bytes (number xs % p .size) false rest
 
-    commands : (k : Command) (rest : List Bool) → does (begun k) rest ≡ says (command k rest)
+    commands : (k : Command) (rest : List Bool) → does (phaseAfterOpcode k) rest ≡ says (command k rest)
     commands WREN rest = rw no-stores (waiting SetLatch rest)
     commands WRDI rest = rw no-stores (waiting ClearLatch rest)
     commands RDSR rest = rw no-stores (showing Register 0 rest)
@@ -208,13 +208,13 @@ module _ (p : Part) (b : SavedBits) (e wp : Bool) where
     commands FSTRD rest = rw no-stores (idle FastAddress (λ n v x. refl) wide refl (λ v. dummy _) rest)
     commands RDID rest = rw no-stores (showing (Identity 0) 0 rest)
     commands SLEEP rest = rw no-stores (waiting FallAsleep rest)
-    commands Unknown rest = rw no-stores (deaf rest)
+    commands Unknown rest = rw no-stores (ignoring rest)
 
     -- a selection does what the ledger reads in its bits
     pub selection-does : (bs : List Bool) → effect p (register b e) wp (Taking Opcode 0 0) bs ≡ said p b e wp (reading p bs)
     selection-does bs = from-start Opcode (λ n v x. refl) (omega arith) bs ∙ by (field 8 bs)
       where
-        by : (y : Bits) → taken Opcode (λ n v x. refl) 0 y ≡ says (opcodeRead p y)
+        by : (y : FieldBits) → taken Opcode (λ n v x. refl) 0 y ≡ says (opcodeRead p y)
         by (short xs) = rw no-stores
         by (whole xs rest) = commands (commandOf p (number xs)) rest
 

@@ -12,8 +12,8 @@ use Rattle.selection.specs.Levels.{levelsOf}
 use Rattle.selection.proofs.LevelLaws.{levels-back}
 use Rattle.ledger.specs.History.{Entry}
 use Rattle.ledger.specs.Steps.{Step, sample, expected, entryOf, entered}
-use Rattle.ledger.specs.SpiLedger.{unended, ended, Item, powerOff, selection, noted, lastSample, items, asleep}
-use Rattle.ledger.specs.SpiAnswers.{LastFall, noFall, fallAfter, fallOn, lastFall}
+use Rattle.ledger.specs.SpiLedger.{unended, ended, Item, powerOff, selection, itemsOnEdge, lastSample, items, asleep}
+use Rattle.ledger.specs.SpiAnswers.{LastFall, noFall, afterRises, fallOn, lastFall}
 use Rattle.ledger.specs.Selections.{sampleByte, AllLow, levelsAfter, bitsAfter, lastFallAfter}
 
 -- a sample has the levels that its byte is made of
@@ -21,8 +21,8 @@ levels-of : (l : Levels) → levelsOf (sampleByte l) ≡ l
 levels-of l = levels-back (l .cs) (l .sck) (l .si) (l .wp) (l .hold)
 
 -- one sample more
-one-noted : (h : List Entry) (l : Levels) (a : ℕ) → items (entryOf sampleByte (sample l a) ∷ h) ≡ noted (edgeOf (lastSample h) l) (l .wp) (items h)
-one-noted h l a = ap (λ (k : Levels). noted (edgeOf (lastSample h) k) (k .wp) (items h)) (levels-of l)
+one-noted : (h : List Entry) (l : Levels) (a : ℕ) → items (entryOf sampleByte (sample l a) ∷ h) ≡ itemsOnEdge (edgeOf (lastSample h) l) (l .wp) (items h)
+one-noted h l a = ap (λ (k : Levels). itemsOnEdge (edgeOf (lastSample h) k) (k .wp) (items h)) (levels-of l)
 
 one-fall : (p : Part) (h : List Entry) (l : Levels) (a : ℕ)
     → lastFall p (entryOf sampleByte (sample l a) ∷ h) ≡ fallOn (edgeOf (lastSample h) l) p (items h) (lastFall p h)
@@ -30,7 +30,7 @@ one-fall p h l a = ap (λ (k : Levels). fallOn (edgeOf (lastSample h) k) p (item
 
 -- between two samples with CS# 0: HOLD# before and now, SCK before and now, SI and WP# now
 clock-noted : (is : List Item) (bs : List Bool) (h h′ k k′ x wp : Bool)
-    → noted (clockEdge h h′ k k′ x) wp (selection bs unended ∷ is)
+    → itemsOnEdge (clockEdge h h′ k k′ x) wp (selection bs unended ∷ is)
     ≡ selection (bs ++ cond (h && (h′ && (not k && k′))) (x ∷ []) []) unended ∷ is
 clock-noted is bs false h′ k k′ x wp = rw append-nil
 clock-noted is bs true false k k′ x wp = rw append-nil
@@ -40,7 +40,7 @@ clock-noted is bs true true true false x wp = rw append-nil
 clock-noted is bs true true true true x wp = rw append-nil
 
 clock-fall : (p : Part) (is : List Item) (bs : List Bool) (f : LastFall) (h h′ k k′ x : Bool) → asleep p is ≡ false
-    → fallOn (clockEdge h h′ k k′ x) p (selection bs unended ∷ is) f ≡ cond (h && (h′ && (k && not k′))) (fallAfter bs) f
+    → fallOn (clockEdge h h′ k k′ x) p (selection bs unended ∷ is) f ≡ cond (h && (h′ && (k && not k′))) (afterRises bs) f
 clock-fall p is bs f false h′ k k′ x a = refl
 clock-fall p is bs f true false k k′ x a = refl
 clock-fall p is bs f true true false k′ x a = by k′

@@ -18,11 +18,11 @@ use Rattle.selection.specs.declared.opcode.Command.the-variants.{WREN, WRDI, RD
 use Rattle.selection.specs.declared.phase.Field.{Field}
 use Rattle.selection.specs.declared.phase.Field.the-variants.{Opcode, ReadAddress, FastAddress, WriteAddress, Dummy, Data, StatusByte}
 use Rattle.selection.specs.declared.phase.Phase.{Phase}
-use Rattle.selection.specs.declared.phase.Phase.the-variants.{Rest, Deaf, Taking, Showing, Waiting}
+use Rattle.selection.specs.declared.phase.Phase.the-variants.{Rest, Ignoring, Taking, Showing, Waiting}
 use Rattle.selection.specs.declared.phase.Source.the-variants.{Memory, Register, Identity}
 use Rattle.selection.specs.Opcode.{commandOf}
-use Rattle.selection.specs.Phase.{width, begun, filled, afterRise}
-use Rattle.ledger.specs.Bits.{numberAfter, number, Field as Bits, short, whole, put, field}
+use Rattle.selection.specs.Phase.{width, phaseAfterOpcode, phaseAfterField, afterRise}
+use Rattle.ledger.specs.Bits.{numberAfter, number, FieldBits, short, whole, put, field}
 use Rattle.ledger.specs.SpiLedger.{command, opcodeRead, reading, addressIn}
 use Rattle.ledger.specs.SpiAnswers.{Output, nothing, byte, bitShown, readShows}
 use Rattle.ledger.proofs.SpiSources as Sources
@@ -33,11 +33,11 @@ same-two false = refl
 
 -- ---- a field: how many bits it takes of a list
 
-abbrev pub Counted : ℕ → List Bool → Bits → Type 0
+abbrev pub Counted : ℕ → List Bool → FieldBits → Type 0
 Counted r bs (short xs) = length bs < r
 Counted r bs (whole xs rest) = length bs ≡ r + length rest
 
-counted-put : (r : ℕ) (x : Bool) (bs : List Bool) (y : Bits) → Counted r bs y → Counted (suc r) (x ∷ bs) (put x y)
+counted-put : (r : ℕ) (x : Bool) (bs : List Bool) (y : FieldBits) → Counted r bs y → Counted (suc r) (x ∷ bs) (put x y)
 counted-put r x bs (short xs) h = omega arith
 counted-put r x bs (whole xs rest) h = omega arith
 
@@ -60,7 +60,7 @@ module _ (p : Part) (positive : 0 < p .size) where
 
   abbrev mute : Phase → Bool
   mute Rest = true
-  mute Deaf = true
+  mute Ignoring = true
   mute (Taking f n v) = muteField f
   mute (Showing s k) = false
   mute (Waiting a) = true
@@ -69,19 +69,19 @@ module _ (p : Part) (positive : 0 < p .size) where
   mute-either true a b h h′ = h
   mute-either false a b h h′ = h′
 
-  mute-filled : (f : Field) (v : ℕ) → muteField f ≡ true → mute (filled p f v) ≡ true
-  mute-filled WriteAddress v h = refl
-  mute-filled (Data a w) v h = refl
-  mute-filled StatusByte v h = refl
-  mute-filled Opcode v h = absurd (false≢true h)
-  mute-filled ReadAddress v h = absurd (false≢true h)
-  mute-filled FastAddress v h = absurd (false≢true h)
-  mute-filled (Dummy a) v h = absurd (false≢true h)
+  mute-after-field : (f : Field) (v : ℕ) → muteField f ≡ true → mute (phaseAfterField p f v) ≡ true
+  mute-after-field WriteAddress v h = refl
+  mute-after-field (Data a w) v h = refl
+  mute-after-field StatusByte v h = refl
+  mute-after-field Opcode v h = absurd (false≢true h)
+  mute-after-field ReadAddress v h = absurd (false≢true h)
+  mute-after-field FastAddress v h = absurd (false≢true h)
+  mute-after-field (Dummy a) v h = absurd (false≢true h)
 
   mute-rise : (ph : Phase) (x : Bool) → mute ph ≡ true → mute (afterRise p ph x) ≡ true
   mute-rise Rest x h = refl
-  mute-rise Deaf x h = refl
-  mute-rise (Taking f n v) x h = mute-either (ltb (n + 1) (width p f)) _ _ h (mute-filled f (shifted v x) h)
+  mute-rise Ignoring x h = refl
+  mute-rise (Taking f n v) x h = mute-either (ltb (n + 1) (width p f)) _ _ h (mute-after-field f (shifted v x) h)
   mute-rise (Showing s k) x h = absurd (false≢true h)
   mute-rise (Waiting a) x h = refl
 
@@ -96,11 +96,11 @@ module _ (p : Part) (positive : 0 < p .size) where
     -- ---- a field: short of its width nothing is shown, and whole it begins what follows
 
     module _ (f : Field) where
-      abbrev taken : ℕ → Bits → ℕ
+      abbrev taken : ℕ → FieldBits → ℕ
       taken v (short xs) = 2
-      taken v (whole xs rest) = out (filled p f (numberAfter v xs)) rest
+      taken v (whole xs rest) = out (phaseAfterField p f (numberAfter v xs)) rest
 
-      taken-put : (v : ℕ) (x : Bool) (bs : Bits) → taken v (put x bs) ≡ taken (shifted v x) bs
+      taken-put : (v : ℕ) (x : Bool) (bs : FieldBits) → taken v (put x bs) ≡ taken (shifted v x) bs
       taken-put v x (short xs) = refl
       taken-put v x (whole xs rest) = refl
 
@@ -120,7 +120,7 @@ module _ (p : Part) (positive : 0 < p .size) where
 
     mute-shows : (ph : Phase) → mute ph ≡ true → shows ph ≡ 2
     mute-shows Rest h = refl
-    mute-shows Deaf h = refl
+    mute-shows Ignoring h = refl
     mute-shows (Taking f n v) h = refl
     mute-shows (Showing s k) h = absurd (false≢true h)
     mute-shows (Waiting a) h = refl
@@ -144,7 +144,7 @@ module _ (p : Part) (positive : 0 < p .size) where
       read : (rest : List Bool) → out (Taking ReadAddress 0 0) rest ≡ readShows p st m (command READ rest) (8 + length rest)
       read rest = from-start ReadAddress wide rest ∙ by (field (p .width) rest) (counted (p .width) rest)
         where
-          by : (y : Bits) → Counted (p .width) rest y → taken ReadAddress 0 y ≡ shownFrom (addressIn p y) (8 + length rest) (8 + p .width)
+          by : (y : FieldBits) → Counted (p .width) rest y → taken ReadAddress 0 y ≡ shownFrom (addressIn p y) (8 + length rest) (8 + p .width)
           by (short xs) l = rw (lt-ltb (8 + length rest) (8 + p .width) (omega arith))
           by (whole xs more) l =
               let a : ℕ = number xs % p .size in
@@ -154,34 +154,34 @@ module _ (p : Part) (positive : 0 < p .size) where
       dummy : (a n h : ℕ) (bs : List Bool) → a < p .size → n + 8 ≡ h + length bs → out (Taking (Dummy a) 0 0) bs ≡ shownFrom a n h
       dummy a n h bs l q = from-start (Dummy a) (omega arith) bs ∙ by (field 8 bs) (counted 8 bs)
         where
-          by : (y : Bits) → Counted 8 bs y → taken (Dummy a) 0 y ≡ shownFrom a n h
+          by : (y : FieldBits) → Counted 8 bs y → taken (Dummy a) 0 y ≡ shownFrom a n h
           by (short xs) c = rw (lt-ltb n h (omega arith))
           by (whole xs more) c = Sources.from-h p positive st m (Memory a) (from a) (λ i k. Sources.memory-bit p positive st m a i k l) more h n (omega arith)
 
       fast : (rest : List Bool) → out (Taking FastAddress 0 0) rest ≡ readShows p st m (command FSTRD rest) (8 + length rest)
       fast rest = from-start FastAddress wide rest ∙ by (field (p .width) rest) (counted (p .width) rest)
         where
-          by : (y : Bits) → Counted (p .width) rest y → taken FastAddress 0 y ≡ shownFrom (addressIn p y) (8 + length rest) (8 + p .width + 8)
+          by : (y : FieldBits) → Counted (p .width) rest y → taken FastAddress 0 y ≡ shownFrom (addressIn p y) (8 + length rest) (8 + p .width + 8)
           by (short xs) l = rw (lt-ltb (8 + length rest) (8 + p .width + 8) (omega arith))
           by (whole xs more) l = dummy (number xs % p .size) (8 + length rest) (8 + p .width + 8) more (mod-lt (number xs) positive) (omega arith)
 
-      commands : (k : Command) (rest : List Bool) → out (begun k) rest ≡ readShows p st m (command k rest) (8 + length rest)
-      commands WREN rest = silent (begun WREN) rest (8 + length rest) 8 refl
-      commands WRDI rest = silent (begun WRDI) rest (8 + length rest) 8 refl
+      commands : (k : Command) (rest : List Bool) → out (phaseAfterOpcode k) rest ≡ readShows p st m (command k rest) (8 + length rest)
+      commands WREN rest = silent (phaseAfterOpcode WREN) rest (8 + length rest) 8 refl
+      commands WRDI rest = silent (phaseAfterOpcode WRDI) rest (8 + length rest) 8 refl
       commands RDSR rest = Sources.from-h p positive st m Register (λ i. byte (statusByte st)) (Sources.status-bit p positive st m) rest 8 (8 + length rest) refl
-      commands WRSR rest = silent (begun WRSR) rest (8 + length rest) 8 refl
+      commands WRSR rest = silent (phaseAfterOpcode WRSR) rest (8 + length rest) 8 refl
       commands READ rest = read rest
-      commands WRITE rest = silent (begun WRITE) rest (8 + length rest) 8 refl
+      commands WRITE rest = silent (phaseAfterOpcode WRITE) rest (8 + length rest) 8 refl
       commands FSTRD rest = fast rest
       commands RDID rest =
           Sources.from-h p positive st m (Identity 0) (λ i. cond (ltb i 3) (byte (getD (p .identity) i 0)) nothing) (Sources.identity-bit p positive st m) rest 8 (8 + length rest) refl
-      commands SLEEP rest = silent (begun SLEEP) rest (8 + length rest) 8 refl
-      commands Unknown rest = silent (begun Unknown) rest (8 + length rest) 8 refl
+      commands SLEEP rest = silent (phaseAfterOpcode SLEEP) rest (8 + length rest) 8 refl
+      commands Unknown rest = silent (phaseAfterOpcode Unknown) rest (8 + length rest) 8 refl
 
       -- a fall after the bits of a selection shows what the ledger reads in them
       pub selection-shows : (bs : List Bool) → out (Taking Opcode 0 0) bs ≡ readShows p st m (reading p bs) (length bs)
       selection-shows bs = from-start Opcode (omega arith) bs ∙ by (field 8 bs) (counted 8 bs)
         where
-          by : (y : Bits) → Counted 8 bs y → taken Opcode 0 y ≡ readShows p st m (opcodeRead p y) (length bs)
+          by : (y : FieldBits) → Counted 8 bs y → taken Opcode 0 y ≡ readShows p st m (opcodeRead p y) (length bs)
           by (short xs) c = refl
           by (whole xs rest) c = rw c (commands (commandOf p (number xs)) rest)

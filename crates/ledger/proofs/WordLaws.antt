@@ -14,7 +14,7 @@ use Rattle.parts.specs.Status.{bit}
 use Rattle.serial.specs.Bits.{shifted}
 use Rattle.transfer.specs.declared.word.DeviceWord.{DeviceWord}
 use Rattle.transfer.specs.declared.word.DeviceWord.the-variants.{ReadWord, WriteWord, OtherWord}
-use Rattle.transfer.specs.Buffer.{joined}
+use Rattle.transfer.specs.Buffer.{addressOfBytes}
 use Rattle.transfer.specs.Word.{wordOf}
 use Rattle.ledger.specs.Bits.{numberAfter, number}
 use Rattle.ledger.specs.Word.{sameBit, sameBits, pin, drawnWord, wordIn, addressAfter}
@@ -185,7 +185,7 @@ after-append v [] ys = refl
 after-append v (x ∷ xs) ys = after-append (shifted v x) xs ys
 
 pub address-after : (p : Part) (a16 : Bool) (high low : List Bool) → length high ≡ 8 → length low ≡ 8
-    → addressAfter p a16 high low ≡ joined p a16 (number high) (number low)
+    → addressAfter p a16 high low ≡ addressOfBytes p a16 (number high) (number low)
 address-after p a16 high low h l =
     ap (λ (x : ℕ). x % p .size)
     (after-append (shifted 0 a16) high low

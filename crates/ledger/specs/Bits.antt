@@ -14,15 +14,15 @@ abbrev pub number : List Bool → ℕ
 number bs = numberAfter 0 bs
 
 -- the first n bits of a list and what follows them, or fewer than n
-pub data Field : Type 0 where
-  short : List Bool → Field
-  whole : List Bool → List Bool → Field
+pub data FieldBits : Type 0 where
+  short : List Bool → FieldBits
+  whole : List Bool → List Bool → FieldBits
 
-abbrev pub put : Bool → Field → Field
+abbrev pub put : Bool → FieldBits → FieldBits
 put b (short xs) = short (b ∷ xs)
 put b (whole xs rest) = whole (b ∷ xs) rest
 
-abbrev pub field : ℕ → List Bool → Field
+abbrev pub field : ℕ → List Bool → FieldBits
 field zero bs = whole [] bs
 field (suc n) [] = short []
 field (suc n) (b ∷ bs) = put b (field n bs)

@@ -121,44 +121,44 @@ bufferOf p pins h = openBuffer p pins (bufferBefore p pins h) (items h)
 
 -- the rises of the open span that came before its last fall of SCL, if it has one
 pub data LastFall : Type 0 where
-  none : LastFall
-  after : List Clock → LastFall
+  noFall : LastFall
+  afterRises : List Clock → LastFall
 
 abbrev pub fallIn : List Item → LastFall
-fallIn [] = none
-fallIn (idle ∷ is) = none
-fallIn (span ks ∷ is) = after ks
+fallIn [] = noFall
+fallIn (idle ∷ is) = noFall
+fallIn (span ks ∷ is) = afterRises ks
 
 -- the part's pull changes on SCL falls; START and STOP release the line
 abbrev pub fallOn : Edge → List Item → LastFall → LastFall
-fallOn Start is f = none
-fallOn Stop is f = none
+fallOn Start is f = noFall
+fallOn Stop is f = noFall
 fallOn (Rise line) is f = f
 fallOn Fall is f = fallIn is
 fallOn Quiet is f = f
 
 abbrev pub fallAfter : Event → ℕ → Wires → List Item → LastFall → LastFall
 fallAfter (SpiPowerOn x) answer w is f = f
-fallAfter (I2cPowerOn x a) answer w is f = none
-fallAfter PowerOff answer w is f = none
+fallAfter (I2cPowerOn x a) answer w is f = noFall
+fallAfter PowerOff answer w is f = noFall
 fallAfter (Sample x) answer w is f = fallOn (edgeBetween w (wiresAt (levelsOf x) answer)) is f
 fallAfter (Expected v) answer w is f = f
 
 abbrev pub lastFall : List Entry → LastFall
-lastFall [] = none
+lastFall [] = noFall
 lastFall (e ∷ h) = fallAfter (e .event) (e .answer) (lastWires h) (items h) (lastFall h)
 
 -- whether the part pulls since that fall, with the memory m and the buffer b at the START
 abbrev pub pullsSince : Part → ℕ → List ℕ → AddressBuffer → LastFall → Bool
-pullsSince p pins m b none = false
-pullsSince p pins m b (after ks) = spanPulls p pins m b (bytes ks) (unfinished ks)
+pullsSince p pins m b noFall = false
+pullsSince p pins m b (afterRises ks) = spanPulls p pins m b (bytes ks) (unfinished ks)
 
 -- the ledger's memory
-abbrev pub memoryOf : Part → ℕ → List ℕ → List Entry → List ℕ
-memoryOf p pins first h = stored first (writes p pins (items h))
+abbrev pub memoryNow : Part → ℕ → List ℕ → List Entry → List ℕ
+memoryNow p pins first h = stored first (writes p pins (items h))
 
 abbrev pub pulls : Part → ℕ → List ℕ → List Entry → Bool
-pulls p pins first h = pullsSince p pins (memoryOf p pins first h) (bufferBefore p pins h) (lastFall h)
+pulls p pins first h = pullsSince p pins (memoryNow p pins first h) (bufferBefore p pins h) (lastFall h)
 
 -- the answer is 0 (low) or 2 (nothing driven)
 abbrev pub pullAnswer : Bool → ℕ

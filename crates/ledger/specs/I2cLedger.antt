@@ -38,12 +38,12 @@ withClock k [] = []
 withClock k (idle ∷ is) = idle ∷ is
 withClock k (span ks ∷ is) = span (ks ++ (k ∷ [])) ∷ is
 
-abbrev pub noted : Edge → Bool → List Item → List Item
-noted Start wp is = span [] ∷ is
-noted Stop wp is = idle ∷ is
-noted (Rise line) wp is = withClock (record { line = line; wp = wp }) is
-noted Fall wp is = is
-noted Quiet wp is = is
+abbrev pub itemsOnEdge : Edge → Bool → List Item → List Item
+itemsOnEdge Start wp is = span [] ∷ is
+itemsOnEdge Stop wp is = idle ∷ is
+itemsOnEdge (Rise line) wp is = withClock (record { line = line; wp = wp }) is
+itemsOnEdge Fall wp is = is
+itemsOnEdge Quiet wp is = is
 
 -- SCL and the line at a sample
 pub record Wires : Type 0 where
@@ -73,7 +73,7 @@ abbrev pub itemsAfter : Event → ℕ → Wires → List Item → List Item
 itemsAfter (SpiPowerOn x) answer w is = is
 itemsAfter (I2cPowerOn x a) answer w is = idle ∷ is
 itemsAfter PowerOff answer w is = idle ∷ is
-itemsAfter (Sample x) answer w is = noted (edgeBetween w (wiresAt (levelsOf x) answer)) (levelsOf x .wp) is
+itemsAfter (Sample x) answer w is = itemsOnEdge (edgeBetween w (wiresAt (levelsOf x) answer)) (levelsOf x .wp) is
 itemsAfter (Expected v) answer w is = is
 
 -- the wires at the last sample of a history

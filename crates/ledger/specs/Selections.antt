@@ -7,7 +7,7 @@ use mathlib.Core.List.{List, [], _∷_, _++_}
 use Rattle.parts.specs.Status.{bit}
 use Rattle.selection.specs.declared.levels.Levels.{Levels}
 use Rattle.ledger.specs.Steps.{Step, sample, expected, lastSeen}
-use Rattle.ledger.specs.SpiAnswers.{LastFall, noFall, fallAfter}
+use Rattle.ledger.specs.SpiAnswers.{LastFall, noFall, afterRises}
 
 -- bit 0 is CS#, 1 SCK, 2 SI, 3 WP#, 4 HOLD#
 abbrev pub sampleByte : Levels → ℕ
@@ -39,5 +39,5 @@ bitsAfter l (expected value answer ∷ ss) = bitsAfter l ss
 -- the last counted fall after it, with the bits of the rises before that fall
 abbrev pub lastFallAfter : Levels → List (Step Levels) → LastFall
 lastFallAfter l [] = noFall
-lastFallAfter l (sample k answer ∷ ss) = cond (falls (levelsAfter l ss) k) (fallAfter (bitsAfter l ss)) (lastFallAfter l ss)
+lastFallAfter l (sample k answer ∷ ss) = cond (falls (levelsAfter l ss) k) (afterRises (bitsAfter l ss)) (lastFallAfter l ss)
 lastFallAfter l (expected value answer ∷ ss) = lastFallAfter l ss

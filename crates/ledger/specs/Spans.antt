@@ -8,7 +8,7 @@ use Rattle.parts.specs.Status.{bit}
 use Rattle.transfer.specs.declared.levels.Levels.{Levels}
 use Rattle.ledger.specs.Steps.{Step, sample, expected, lastSeen}
 use Rattle.ledger.specs.I2cLedger.{Clock, Wires, wiresAt}
-use Rattle.ledger.specs.I2cAnswers.{LastFall, none, after}
+use Rattle.ledger.specs.I2cAnswers.{LastFall, noFall, afterRises}
 
 -- bit 0 is SCL, 1 SDA as others drive it, 2 WP
 abbrev pub sampleByte : Levels → ℕ
@@ -50,6 +50,6 @@ clocksAfter w (expected value answer ∷ ss) = clocksAfter w ss
 
 -- the last fall of SCL, with the rises before it
 abbrev pub lastFallAfter : Wires → List (Step Levels) → LastFall
-lastFallAfter w [] = none
-lastFallAfter w (sample l answer ∷ ss) = cond (wiresAfter w ss .scl && not (l .scl)) (after (clocksAfter w ss)) (lastFallAfter w ss)
+lastFallAfter w [] = noFall
+lastFallAfter w (sample l answer ∷ ss) = cond (wiresAfter w ss .scl && not (l .scl)) (afterRises (clocksAfter w ss)) (lastFallAfter w ss)
 lastFallAfter w (expected value answer ∷ ss) = lastFallAfter w ss

@@ -19,22 +19,22 @@ use Rattle.selection.specs.Edge.{edgeOf}
 use Rattle.selection.specs.Levels.{levelsOf}
 use Rattle.ledger.specs.Stores.{stored}
 use Rattle.ledger.specs.History.{Entry}
-use Rattle.ledger.specs.SpiLedger.{unended, ended, Item, powerOn, powerOff, selection, lastSample, items, Reading, partial, command, reading, dataAddress, asleep, heard, enabled, SavedBits, register, bits, writes}
+use Rattle.ledger.specs.SpiLedger.{unended, ended, Item, powerOn, powerOff, selection, lastSample, items, Reading, partial, command, reading, dataAddress, asleep, withoutIgnored, enabled, SavedBits, register, bits, writes}
 
 -- ---- the last counted fall of the open selection
 
 -- none yet, or one after counted rises with these bits: after n rises, n being their number
 pub data LastFall : Type 0 where
   noFall : LastFall
-  fallAfter : List Bool → LastFall
+  afterRises : List Bool → LastFall
 
--- a counted fall comes after the bits of the selection that has not ended. It counts as none in a deaf selection: the one after a
+-- a counted fall comes after the bits of the selection that has not ended. It counts as none in a selection that is ignored, after a
 -- whole SLEEP, or where CS# has not fallen since power on
 abbrev pub fallIn : Part → List Item → LastFall
 fallIn p [] = noFall
 fallIn p (powerOn ∷ is) = noFall
 fallIn p (powerOff ∷ is) = noFall
-fallIn p (selection bs unended ∷ is) = cond (asleep p is) noFall (fallAfter bs)
+fallIn p (selection bs unended ∷ is) = cond (asleep p is) noFall (afterRises bs)
 fallIn p (selection bs (ended wp) ∷ is) = noFall
 
 -- CS# falling and rising forget the last one; a counted rise and samples without an edge that counts keep it
@@ -46,17 +46,17 @@ fallOn Fall p is f = fallIn p is
 fallOn Quiet p is f = f
 
 -- power on and power off forget it too; an expected answer keeps it
-abbrev pub fallNoted : Event → Part → Levels → List Item → LastFall → LastFall
-fallNoted (SpiPowerOn x) p l is f = noFall
-fallNoted (I2cPowerOn x a) p l is f = f
-fallNoted PowerOff p l is f = noFall
-fallNoted (Sample x) p l is f = fallOn (edgeOf l (levelsOf x)) p is f
-fallNoted (Expected v) p l is f = f
+abbrev pub fallAfter : Event → Part → Levels → List Item → LastFall → LastFall
+fallAfter (SpiPowerOn x) p l is f = noFall
+fallAfter (I2cPowerOn x a) p l is f = f
+fallAfter PowerOff p l is f = noFall
+fallAfter (Sample x) p l is f = fallOn (edgeOf l (levelsOf x)) p is f
+fallAfter (Expected v) p l is f = f
 
 -- of a history
 abbrev pub lastFall : Part → List Entry → LastFall
 lastFall p [] = noFall
-lastFall p (e ∷ h) = fallNoted (e .event) p (lastSample h) (items h) (lastFall p h)
+lastFall p (e ∷ h) = fallAfter (e .event) p (lastSample h) (items h) (lastFall p h)
 
 -- ---- what a command shows
 
@@ -109,7 +109,7 @@ readShows p st m (command k rest) n =
 -- what a last counted fall shows, with this status register and this memory
 abbrev pub fallShows : Part → Status → List ℕ → LastFall → ℕ
 fallShows p st m noFall = 2
-fallShows p st m (fallAfter bs) = readShows p st m (reading p bs) (length bs)
+fallShows p st m (afterRises bs) = readShows p st m (reading p bs) (length bs)
 
 -- ---- the answer
 
@@ -119,10 +119,10 @@ unlessHeld l a = cond (l .cs) 2 (cond (l .hold) a 2)
 
 -- the ledger's memory and status register
 abbrev pub memoryNow : Part → SavedBits → List ℕ → List Entry → List ℕ
-memoryNow p made first h = stored first (writes p made (heard p (items h)))
+memoryNow p made first h = stored first (writes p made (withoutIgnored p (items h)))
 
 abbrev pub registerNow : Part → SavedBits → List Entry → Status
-registerNow p made h = register (bits p made (heard p (items h))) (enabled p (heard p (items h)))
+registerNow p made h = register (bits p made (withoutIgnored p (items h))) (enabled p (withoutIgnored p (items h)))
 
 -- the answer of the latest event of a history, for a part made with these bits and a first memory. Without power there is no sample,
 -- which counts as CS# 1

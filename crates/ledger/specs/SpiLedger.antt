@@ -18,7 +18,7 @@ use Rattle.selection.specs.declared.opcode.Command.the-variants.{WREN, WRDI, RD
 use Rattle.selection.specs.Edge.{edgeOf}
 use Rattle.selection.specs.Levels.{levelsOf}
 use Rattle.selection.specs.Opcode.{commandOf}
-use Rattle.ledger.specs.Bits.{number, Field, short, whole, field, bytes}
+use Rattle.ledger.specs.Bits.{number, FieldBits, short, whole, field, bytes}
 use Rattle.ledger.specs.Stores.{Store}
 use Rattle.ledger.specs.History.{Entry}
 
@@ -52,12 +52,12 @@ closed wp (selection bs unended ∷ is) = selection bs (ended wp) ∷ is
 closed wp (selection bs (ended w) ∷ is) = selection bs (ended w) ∷ is
 
 -- selections and counted rises are as in the bus rules
-abbrev pub noted : Edge → Bool → List Item → List Item
-noted Select wp is = selection [] unended ∷ is
-noted Deselect wp is = closed wp is
-noted (Rise b) wp is = withBit b is
-noted Fall wp is = is
-noted Quiet wp is = is
+abbrev pub itemsOnEdge : Edge → Bool → List Item → List Item
+itemsOnEdge Select wp is = selection [] unended ∷ is
+itemsOnEdge Deselect wp is = closed wp is
+itemsOnEdge (Rise b) wp is = withBit b is
+itemsOnEdge Fall wp is = is
+itemsOnEdge Quiet wp is = is
 
 -- before power on there is no sample; CS# 1 stands for that
 abbrev pub noSample : Levels
@@ -74,7 +74,7 @@ abbrev pub itemsAfter : Event → Levels → List Item → List Item
 itemsAfter (SpiPowerOn x) l is = powerOn ∷ is
 itemsAfter (I2cPowerOn x a) l is = is
 itemsAfter PowerOff l is = powerOff ∷ is
-itemsAfter (Sample x) l is = noted (edgeOf l (levelsOf x)) (levelsOf x .wp) is
+itemsAfter (Sample x) l is = itemsOnEdge (edgeOf l (levelsOf x)) (levelsOf x .wp) is
 itemsAfter (Expected v) l is = is
 
 -- the levels of the last sample of a history
@@ -94,7 +94,7 @@ pub data Reading : Type 0 where
   partial : Reading
   command : Command → List Bool → Reading
 
-abbrev pub opcodeRead : Part → Field → Reading
+abbrev pub opcodeRead : Part → FieldBits → Reading
 opcodeRead p (short xs) = partial
 opcodeRead p (whole xs rest) = command (commandOf p (number xs)) rest
 
@@ -102,12 +102,12 @@ abbrev pub reading : Part → List Bool → Reading
 reading p bs = opcodeRead p (field 8 bs)
 
 -- the bits after a whole address, of which there are none if the address is not whole
-abbrev pub afterAddress : Field → List Bool
+abbrev pub afterAddress : FieldBits → List Bool
 afterAddress (short xs) = []
 afterAddress (whole xs rest) = rest
 
 -- the address of a command; it counts modulo the size
-abbrev pub addressIn : Part → Field → ℕ
+abbrev pub addressIn : Part → FieldBits → ℕ
 addressIn p (short xs) = 0
 addressIn p (whole xs rest) = number xs % p .size
 
@@ -118,7 +118,7 @@ dataBytes p rest = bytes (afterAddress (field (p .width) rest))
 abbrev pub dataAddress : Part → List Bool → ℕ
 dataAddress p rest = addressIn p (field (p .width) rest)
 
--- ---- sleep: the selection after a whole SLEEP, with no power off between, is deaf and counts as none
+-- ---- sleep: the selection after a whole SLEEP, with no power off between, is ignored and counts as none
 
 abbrev pub sleepCommand : Command → Bool
 sleepCommand WREN = false
@@ -143,12 +143,12 @@ asleep p (powerOff ∷ is) = false
 asleep p (selection bs unended ∷ is) = asleep p is
 asleep p (selection bs (ended wp) ∷ is) = cond (asleep p is) false (isSleep (reading p bs))
 
--- the items without the deaf selections
-abbrev pub heard : Part → List Item → List Item
-heard p [] = []
-heard p (powerOn ∷ is) = powerOn ∷ heard p is
-heard p (powerOff ∷ is) = powerOff ∷ heard p is
-heard p (selection bs e ∷ is) = cond (asleep p is) (heard p is) (selection bs e ∷ heard p is)
+-- the items without the selections that a sleeping part ignores
+abbrev pub withoutIgnored : Part → List Item → List Item
+withoutIgnored p [] = []
+withoutIgnored p (powerOn ∷ is) = powerOn ∷ withoutIgnored p is
+withoutIgnored p (powerOff ∷ is) = powerOff ∷ withoutIgnored p is
+withoutIgnored p (selection bs e ∷ is) = cond (asleep p is) (withoutIgnored p is) (selection bs e ∷ withoutIgnored p is)
 
 -- ---- the enable: a whole WREN since power on, with no whole WRDI, and no WRITE or WRSR with a whole data byte, in between
 
@@ -183,8 +183,8 @@ pub record SavedBits : Type 0 where
   pub bp1 : Bool
   pub bp0 : Bool
 
-abbrev pub noBits : SavedBits
-noBits = record { srwd = false; bp1 = false; bp0 = false }
+abbrev pub zeroBits : SavedBits
+zeroBits = record { srwd = false; bp1 = false; bp0 = false }
 
 -- bits 7, 3 and 2 of a byte
 abbrev pub bitsIn : ℕ → SavedBits
@@ -215,7 +215,7 @@ bitsAfter (command Unknown rest) e wp b = b
 
 -- power off zeroes the bits of a part that does not save them
 abbrev pub keptBits : Part → SavedBits → SavedBits
-keptBits p b = cond (p .saved) b noBits
+keptBits p b = cond (p .saved) b zeroBits
 
 abbrev pub bits : Part → SavedBits → List Item → SavedBits
 bits p made [] = made

@@ -45,12 +45,12 @@ fit-of p t =
     record {
       positive = ltb-true 0 (p .size) (a .0);
       small = leb-true (p .size) 262144 (b .0);
-      reached = leb-true (p .size) (2 ^ p .width) (c .0);
+      addressable = leb-true (p .size) (2 ^ p .width) (c .0);
       quartered = eqb-true (p .size % 4) 0 (d .0);
       wide = ltb-true 0 (p .width) (e .0);
       narrow = leb-true (p .width) 24 (f .0);
       few = leb-true (p .pins) 8 (g .0);
-      paged = λ e. eqb-true (p .size) 131072 (if-set (p .a16) (eqb (p .size) 131072) (g .1) e);
+      a16-size = λ e. eqb-true (p .size) 131072 (if-set (p .a16) (eqb (p .size) 131072) (g .1) e);
     }
 
 -- every part of the table fits

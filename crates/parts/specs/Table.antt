@@ -126,12 +126,12 @@ partOf n = getD parts n noPart
 pub record Fit (p : Part) : Type 0 where
   pub positive : 0 < p .size
   pub small : p .size ≤ 262144
-  pub reached : p .size ≤ 2 ^ p .width
+  pub addressable : p .size ≤ 2 ^ p .width
   pub quartered : p .size % 4 ≡ 0
   pub wide : 0 < p .width
   pub narrow : p .width ≤ 24
   pub few : p .pins ≤ 8
-  pub paged : p .a16 ≡ true → p .size ≡ 131072
+  pub a16-size : p .a16 ≡ true → p .size ≡ 131072
 
 -- the same as one test of a row
 abbrev pub fits : Part → Bool

@@ -13,10 +13,10 @@ use Rattle.transfer.specs.declared.levels.Levels as I2cLevels
 use Rattle.transfer.specs.declared.phase.Phase.the-variants as I2cPhases
 use Rattle.i2c.specs.declared.sample.I2c as I2cState
 
--- power on with CS# 0: deaf until CS# has been 1
+-- power on with CS# 0: the bus is ignored until CS# has been 1
 abbrev pub atPower : Bool → SpiPhase.Phase
 atPower true = SpiPhases.Rest
-atPower false = SpiPhases.Deaf
+atPower false = SpiPhases.Ignoring
 
 -- power on clears sleep, and nothing is driven
 abbrev pub spiStart : SpiLevels.Levels → SpiState.Spi

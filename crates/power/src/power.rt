@@ -8,7 +8,7 @@ use parts::status::Status;
 use spi::sample::Spi;
 use transfer::buffer::AddressBuffer;
 
-// An SPI part at power on: deaf until CS# has been 1.
+// An SPI part at power on: it ignores the bus until CS# has been 1.
 pub fn spi_start(levels: selection::levels::Levels) -> Spi
     ensures { λ r. ⌜ r ≡ spiStart levels ⌝ }
 {
@@ -24,7 +24,7 @@ pub fn spi_start(levels: selection::levels::Levels) -> Spi
             last: levels,
             asleep: false,
             shown: Answer::HighZ,
-            phase: selection::phase::Phase::Deaf,
+            phase: selection::phase::Phase::Ignoring,
         }
     }
 }

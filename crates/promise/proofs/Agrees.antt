@@ -33,7 +33,7 @@ use Rattle.events.specs.Event.{Outcome, keeping, accepted, refused, onUnpowered
 use Rattle.chip.specs.Model.{modelOf}
 use Rattle.ledger.specs.History.{Entry}
 use Rattle.ledger.specs.Stores.{stored}
-use Rattle.ledger.specs.SpiLedger.{SavedBits, noBits, register}
+use Rattle.ledger.specs.SpiLedger.{SavedBits, zeroBits, register}
 use Rattle.ledger.specs.SpiLedger as SpiLedger
 use Rattle.ledger.specs.I2cLedger as I2cLedger
 use Rattle.ledger.proofs.SpiFits as SpiFits
@@ -44,7 +44,7 @@ use Rattle.promise.proofs.Runs.{entered}
 
 -- ---- what is left of the register at power off
 
-kept-register : (y : Bool) (b : SavedBits) → cond y (register b false) cleared ≡ register (cond y b noBits) false
+kept-register : (y : Bool) (b : SavedBits) → cond y (register b false) cleared ≡ register (cond y b zeroBits) false
 kept-register true b = refl
 kept-register false b = refl
 

@@ -22,8 +22,8 @@ use Rattle.chip.specs.declared.model.Model.{Model}
 use Rattle.runs.specs.Event.{eventOf}
 use Rattle.ledger.specs.Bits as Bits
 use Rattle.ledger.specs.History.{Entry}
-use Rattle.ledger.specs.SpiLedger.{unended, ended, Item, powerOn, powerOff, selection, withBit, closed, noted, lastSample, items, Reading, partial, command, reading, asleep, heard, enabled, SavedBits, bitsIn, statusWrite, bitsAfter, bits}
-use Rattle.promise.specs.Lists.{Seen, shown, modelAfter, memoryAfter}
+use Rattle.ledger.specs.SpiLedger.{unended, ended, Item, powerOn, powerOff, selection, withBit, closed, itemsOnEdge, lastSample, items, Reading, partial, command, reading, asleep, withoutIgnored, enabled, SavedBits, bitsIn, statusWrite, bitsAfter, bits}
+use Rattle.promise.specs.Lists.{Observed, observed, modelAfter, memoryAfter}
 use Rattle.promise.specs.Fed.{withEvent}
 use Rattle.promise.specs.Ledger.{savedIn, ledgerBits}
 use Rattle.promise.specs.Promise.{madeBy, historyOf}
@@ -34,7 +34,7 @@ use Rattle.promise.proofs.Steps.{list-bits}
 
 module _ (p : Part) (made : SavedBits) where
   abbrev left : List Item → SavedBits
-  left is = bits p made (heard p is)
+  left is = bits p made (withoutIgnored p is)
 
   -- ---- the end of a selection
 
@@ -43,15 +43,15 @@ module _ (p : Part) (made : SavedBits) where
     Ends b′ = BitsOldOrNew p (selection bs (ended wp) ∷ is) (left is) b′
 
     by-bytes : (rest : List Bool) (vs : List ℕ) → reading p bs ≡ command WRSR rest → Bits.bytes rest ≡ vs
-        → Ends (statusWrite vs (enabled p (heard p is)) wp (left is))
+        → Ends (statusWrite vs (enabled p (withoutIgnored p is)) wp (left is))
     by-bytes rest [] r q = old refl
-    by-bytes rest (v ∷ vs) r q = by (enabled p (heard p is) && not (left is .srwd && not wp)) refl
+    by-bytes rest (v ∷ vs) r q = by (enabled p (withoutIgnored p is) && not (left is .srwd && not wp)) refl
       where
-        by : (y : Bool) → (enabled p (heard p is) && not (left is .srwd && not wp)) ≡ y → Ends (cond y (bitsIn v) (left is))
-        by true t = written bs wp is rest v vs refl r q (and-both (enabled p (heard p is)) _ t .0) refl
+        by : (y : Bool) → (enabled p (withoutIgnored p is) && not (left is .srwd && not wp)) ≡ y → Ends (cond y (bitsIn v) (left is))
+        by true t = written bs wp is rest v vs refl r q (and-both (enabled p (withoutIgnored p is)) _ t .0) refl
         by false t = old refl
 
-    by-reading : (r : Reading) → reading p bs ≡ r → Ends (bitsAfter r (enabled p (heard p is)) wp (left is))
+    by-reading : (r : Reading) → reading p bs ≡ r → Ends (bitsAfter r (enabled p (withoutIgnored p is)) wp (left is))
     by-reading partial q = old refl
     by-reading (command WREN rest) q = old refl
     by-reading (command WRDI rest) q = old refl
@@ -64,8 +64,8 @@ module _ (p : Part) (made : SavedBits) where
     by-reading (command SLEEP rest) q = old refl
     by-reading (command Unknown rest) q = old refl
 
-    by-sleep : (y : Bool) → BitsOldOrNew p (selection bs (ended wp) ∷ is) (bits p made (cond y (heard p is) (selection bs unended ∷ heard p is)))
-        (bits p made (cond y (heard p is) (selection bs (ended wp) ∷ heard p is)))
+    by-sleep : (y : Bool) → BitsOldOrNew p (selection bs (ended wp) ∷ is) (bits p made (cond y (withoutIgnored p is) (selection bs unended ∷ withoutIgnored p is)))
+        (bits p made (cond y (withoutIgnored p is) (selection bs (ended wp) ∷ withoutIgnored p is)))
     by-sleep true = old refl
     by-sleep false = by-reading (reading p bs) refl
 
@@ -91,11 +91,11 @@ module _ (p : Part) (made : SavedBits) where
   rises x (powerOn ∷ is) = old refl
   rises x (powerOff ∷ is) = old refl
   rises x (selection bs unended ∷ is) =
-      old (rw (open-bits (asleep p is) bs (heard p is), open-bits (asleep p is) (bs ++ (x ∷ [])) (heard p is)))
+      old (rw (open-bits (asleep p is) bs (withoutIgnored p is), open-bits (asleep p is) (bs ++ (x ∷ [])) (withoutIgnored p is)))
   rises x (selection bs (ended w) ∷ is) = old refl
 
-  on-edge : (e : Edge) (wp : Bool) (is : List Item) → Steps is (noted e wp is)
-  on-edge Select wp is = old (open-bits (asleep p is) [] (heard p is))
+  on-edge : (e : Edge) (wp : Bool) (is : List Item) → Steps is (itemsOnEdge e wp is)
+  on-edge Select wp is = old (open-bits (asleep p is) [] (withoutIgnored p is))
   on-edge Deselect wp is = closes wp is
   on-edge (Rise x) wp is = rises x is
   on-edge Fall wp is = old refl
@@ -130,7 +130,7 @@ module _ (part pins bits : ℕ) (first : List ℕ) (es : List (List ℕ)) (t : L
           → BitsOldOrNew (partOf (made .part)) (items (historyOf made first (es ++ (t ∷ []))))
           (ledgerBits made (historyOf made first es)) (ledgerBits made (historyOf made first (es ++ (t ∷ []))))
       by true q =
-          let x : Seen = shown (eventOf (modelAfter made first es) (memoryAfter made first es) t) in
+          let x : Observed = observed (eventOf (modelAfter made first es) (memoryAfter made first es) t) in
           rw (q, fed-join (partOf (made .part)) es (t ∷ []) made first [])
           (on-fed (partOf (made .part)) (savedIn (made .status)) (eqb (x .number) 0) (readOf (partOf (made .part)) t) (x .answer) (historyOf made first es))
       by false q = rw q (old refl)

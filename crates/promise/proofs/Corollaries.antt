@@ -23,10 +23,10 @@ use Rattle.runs.specs.Event.{eventOf}
 use Rattle.ledger.specs.Bits.{bytes}
 use Rattle.ledger.specs.History.{Entry}
 use Rattle.ledger.specs.Stores.{Store, stored}
-use Rattle.ledger.specs.SpiLedger.{End, unended, ended, Item, powerOn, powerOff, selection, items, Reading, partial, command, reading, dataBytes, asleep, heard, unlessAny, enableAfter, enabled, SavedBits, writes}
+use Rattle.ledger.specs.SpiLedger.{End, unended, ended, Item, powerOn, powerOff, selection, items, Reading, partial, command, reading, dataBytes, asleep, withoutIgnored, unlessAny, enableAfter, enabled, SavedBits, writes}
 use Rattle.ledger.proofs.Proper.{AllProper, proper-last}
 use Rattle.ledger.proofs.StoreLaws.{storesOf, stored-append}
-use Rattle.promise.specs.Lists.{Seen, shown, modelAfter, memoryAfter}
+use Rattle.promise.specs.Lists.{Observed, observed, modelAfter, memoryAfter}
 use Rattle.promise.specs.Fed.{withEvent}
 use Rattle.promise.specs.Ledger.{savedIn, ledgerStores}
 use Rattle.promise.specs.Promise.{madeBy, cut, thenCut, historyOf}
@@ -58,7 +58,7 @@ module _ (p : Part) (made : SavedBits) where
   enable-off (command SLEEP rest) h = refl
   enable-off (command Unknown rest) h = refl
 
-  -- a selection that comes without the enable, deaf (y) or not, stores nothing
+  -- a selection that comes without the enable, ignored (y) or not, stores nothing
   one-stores : (y : Bool) (bs : List Bool) (e : End) (hs : List Item) → enabled p hs ≡ false
       → writes p made (cond y hs (selection bs e ∷ hs)) ≡ writes p made hs
   one-stores true bs e hs h = refl
@@ -71,24 +71,24 @@ module _ (p : Part) (made : SavedBits) where
   one-enable false bs (ended wp) hs w h = rw h (enable-off (reading p bs) w)
 
   -- nor does any number of them without a WREN
-  off-enable : (more is : List Item) → NoWren p more → enabled p (heard p is) ≡ false → enabled p (heard p (more ++ is)) ≡ false
+  off-enable : (more is : List Item) → NoWren p more → enabled p (withoutIgnored p is) ≡ false → enabled p (withoutIgnored p (more ++ is)) ≡ false
   off-enable [] is n h = h
   off-enable (powerOn ∷ more) is n h = refl
   off-enable (powerOff ∷ more) is n h = refl
   off-enable (selection bs e ∷ more) is n h =
-      one-enable (asleep p (more ++ is)) bs e (heard p (more ++ is)) (n .0) (off-enable more is (n .1) h)
+      one-enable (asleep p (more ++ is)) bs e (withoutIgnored p (more ++ is)) (n .0) (off-enable more is (n .1) h)
 
-  off-stores : (more is : List Item) → NoWren p more → enabled p (heard p is) ≡ false
-      → writes p made (heard p (more ++ is)) ≡ writes p made (heard p is)
+  off-stores : (more is : List Item) → NoWren p more → enabled p (withoutIgnored p is) ≡ false
+      → writes p made (withoutIgnored p (more ++ is)) ≡ writes p made (withoutIgnored p is)
   off-stores [] is n h = refl
   off-stores (powerOn ∷ more) is n h = off-stores more is n h
   off-stores (powerOff ∷ more) is n h = off-stores more is n h
   off-stores (selection bs e ∷ more) is n h =
-      one-stores (asleep p (more ++ is)) bs e (heard p (more ++ is)) (off-enable more is (n .1) h) ∙ off-stores more is (n .1) h
+      one-stores (asleep p (more ++ is)) bs e (withoutIgnored p (more ++ is)) (off-enable more is (n .1) h) ∙ off-stores more is (n .1) h
 
-  -- a WRITE with a whole data byte, heard and ended, ends the enable
+  -- a WRITE with a whole data byte, not ignored and ended, ends the enable
   write-ends : (bs : List Bool) (wp : Bool) (is : List Item) (rest : List Bool) (v : ℕ) (vs : List ℕ) → asleep p is ≡ false
-      → reading p bs ≡ command WRITE rest → dataBytes p rest ≡ v ∷ vs → enabled p (heard p (selection bs (ended wp) ∷ is)) ≡ false
+      → reading p bs ≡ command WRITE rest → dataBytes p rest ≡ v ∷ vs → enabled p (withoutIgnored p (selection bs (ended wp) ∷ is)) ≡ false
   write-ends bs wp is rest v vs a r d = rw (a, r, d)
 
 -- ---- old or new
@@ -109,8 +109,8 @@ module _ (part pins bits : ℕ) (first : List ℕ) where
   row = partOf (model .part)
 
   -- memory, permitted writes, and on SPI the selections, after a list of events on a model just made
-  abbrev pub memoryOf : List (List ℕ) → List ℕ
-  memoryOf es = memoryAfter model first es
+  abbrev pub memoryAfterList : List (List ℕ) → List ℕ
+  memoryAfterList es = memoryAfter model first es
 
   abbrev pub writesOf : List (List ℕ) → List Store
   writesOf es = ledgerStores model (historyOf model first es)
@@ -118,31 +118,31 @@ module _ (part pins bits : ℕ) (first : List ℕ) where
   abbrev pub itemsOf : List (List ℕ) → List Item
   itemsOf es = items (historyOf model first es)
 
-  memory-of : (es : List (List ℕ)) → memoryOf es ≡ stored first (writesOf es)
-  memory-of es = list-memory model first (made-in part pins bits) (made-off part pins bits) es
+  memory-stored : (es : List (List ℕ)) → memoryAfterList es ≡ stored first (writesOf es)
+  memory-stored es = list-memory model first (made-in part pins bits) (made-off part pins bits) es
 
-  same-writes : (es ks : List (List ℕ)) → writesOf ks ≡ writesOf es → memoryOf ks ≡ memoryOf es
-  same-writes es ks e = memory-of ks ∙ ap (stored first) e ∙ sym (memory-of es)
+  same-writes : (es ks : List (List ℕ)) → writesOf ks ≡ writesOf es → memoryAfterList ks ≡ memoryAfterList es
+  same-writes es ks e = memory-stored ks ∙ ap (stored first) e ∙ sym (memory-stored es)
 
   module _ (spi : isSpi (row .bus) ≡ true) (es ks : List (List ℕ)) where
     -- after a list that leaves the enable off, further events that add one selection, whatever its bits, leave the memory as it was
-    pub no-enable-no-store : (bs : List Bool) (e : End) → enabled row (heard row (itemsOf es)) ≡ false
-        → itemsOf (es ++ ks) ≡ selection bs e ∷ itemsOf es → memoryOf (es ++ ks) ≡ memoryOf es
+    pub no-enable-no-store : (bs : List Bool) (e : End) → enabled row (withoutIgnored row (itemsOf es)) ≡ false
+        → itemsOf (es ++ ks) ≡ selection bs e ∷ itemsOf es → memoryAfterList (es ++ ks) ≡ memoryAfterList es
     no-enable-no-store bs e h q =
         same-writes es (es ++ ks)
-        (rw (spi, q) (one-stores row (savedIn (model .status)) (asleep row (itemsOf es)) bs e (heard row (itemsOf es)) h))
+        (rw (spi, q) (one-stores row (savedIn (model .status)) (asleep row (itemsOf es)) bs e (withoutIgnored row (itemsOf es)) h))
 
     -- and so do any number of selections, power offs and power ons, as long as none is a WREN
-    pub no-wren-no-store : (more : List Item) → enabled row (heard row (itemsOf es)) ≡ false
-        → itemsOf (es ++ ks) ≡ more ++ itemsOf es → NoWren row more → memoryOf (es ++ ks) ≡ memoryOf es
+    pub no-wren-no-store : (more : List Item) → enabled row (withoutIgnored row (itemsOf es)) ≡ false
+        → itemsOf (es ++ ks) ≡ more ++ itemsOf es → NoWren row more → memoryAfterList (es ++ ks) ≡ memoryAfterList es
     no-wren-no-store more h q n =
         same-writes es (es ++ ks) (rw (spi, q) (off-stores row (savedIn (model .status)) more (itemsOf es) n h))
 
-    -- after a list whose last selection was a WRITE with a whole data byte, heard and ended, nothing is stored until a WREN: a second
+    -- after a list whose last selection was a WRITE with a whole data byte, not ignored and ended, nothing is stored until a WREN: a second
     -- WRITE stores nothing
     pub one-enable-one-write : (bs : List Bool) (wp : Bool) (is : List Item) (rest : List Bool) (v : ℕ) (vs : List ℕ) (more : List Item)
         → itemsOf es ≡ selection bs (ended wp) ∷ is → asleep row is ≡ false → reading row bs ≡ command WRITE rest → dataBytes row rest ≡ v ∷ vs
-        → itemsOf (es ++ ks) ≡ more ++ itemsOf es → NoWren row more → memoryOf (es ++ ks) ≡ memoryOf es
+        → itemsOf (es ++ ks) ≡ more ++ itemsOf es → NoWren row more → memoryAfterList (es ++ ks) ≡ memoryAfterList es
     one-enable-one-write bs wp is rest v vs more i a r d q n =
         no-wren-no-store more (rw i (write-ends row (savedIn (model .status)) bs wp is rest v vs a r d)) q n
 
@@ -153,8 +153,8 @@ module _ (part pins bits : ℕ) (first : List ℕ) where
   writes-proper es = ledger-proper model (part-fits (model .part) (model-in model (made-in part pins bits .0) .known) .positive) (historyOf model first es)
 
   module _ (es : List (List ℕ)) (t : List ℕ) where
-    abbrev next : Seen
-    next = shown (eventOf (modelAfter model first es) (memoryOf es) t)
+    abbrev next : Observed
+    next = observed (eventOf (modelAfter model first es) (memoryAfterList es) t)
 
     -- the list with t, whose event is accepted (y) or not
     writes-next : writesOf (es ++ (t ∷ []))
@@ -168,35 +168,35 @@ module _ (part pins bits : ℕ) (first : List ℕ) where
     read-grows (Refused r) a h = (Nothing, sym (append-nil (ledgerStores model h)))
 
     -- an accepted event had a memory of the part's size
-    sized : eqb (next .number) 0 ≡ true → length (memoryOf es) ≡ row .size
+    sized : eqb (next .number) 0 ≡ true → length (memoryAfterList es) ≡ row .size
     sized e =
-        accepted-sized (modelAfter model first es) (memoryOf es) t e
+        accepted-sized (modelAfter model first es) (memoryAfterList es) t e
         ∙ ap (λ (n : ℕ). partOf n .size) (list-fits model first (made-in part pins bits) (made-off part pins bits) es .part-is)
 
     -- for every list and one more event: memory and ledger are as before, or both got one byte at one address, the same
-    pub old-or-new : OldOrNew (memoryOf es) (memoryOf (es ++ (t ∷ []))) (writesOf es) (writesOf (es ++ (t ∷ [])))
+    pub old-or-new : OldOrNew (memoryAfterList es) (memoryAfterList (es ++ (t ∷ []))) (writesOf es) (writesOf (es ++ (t ∷ [])))
     old-or-new = by (eqb (next .number) 0) refl
       where
-        by : (y : Bool) → eqb (next .number) 0 ≡ y → OldOrNew (memoryOf es) (memoryOf (es ++ (t ∷ []))) (writesOf es) (writesOf (es ++ (t ∷ [])))
+        by : (y : Bool) → eqb (next .number) 0 ≡ y → OldOrNew (memoryAfterList es) (memoryAfterList (es ++ (t ∷ []))) (writesOf es) (writesOf (es ++ (t ∷ [])))
         by true e =
             let g : Grown (writesOf es) (writesOf (es ++ (t ∷ []))) =
             rw (writes-next, e) (read-grows (readOf row t) (next .answer) (historyOf model first es)) in
             let n : AllProper (length (stored first (writesOf es))) (writesOf (es ++ (t ∷ []))) =
-            subst (λ (k : ℕ). AllProper k (writesOf (es ++ (t ∷ [])))) (sym (sized e) ∙ ap length (memory-of es)) (writes-proper (es ++ (t ∷ []))) in
-            rw (memory-of es, memory-of (es ++ (t ∷ []))) (by-write first (writesOf es) (writesOf (es ++ (t ∷ []))) (g .0) (g .1) n)
+            subst (λ (k : ℕ). AllProper k (writesOf (es ++ (t ∷ [])))) (sym (sized e) ∙ ap length (memory-stored es)) (writes-proper (es ++ (t ∷ []))) in
+            rw (memory-stored es, memory-stored (es ++ (t ∷ []))) (by-write first (writesOf es) (writesOf (es ++ (t ∷ []))) (g .0) (g .1) n)
         by false e =
             let q : writesOf (es ++ (t ∷ [])) ≡ writesOf es = writes-next ∙ rw e in
             old (same-writes es (es ++ (t ∷ [])) q) q
 
   -- a cut changes no byte
-  pub cut-keeps-memory : (es : List (List ℕ)) → memoryOf (thenCut es) ≡ memoryOf es
-  cut-keeps-memory es = memory-join es (cut ∷ []) model first ∙ cut-memory (modelAfter model first es) (memoryOf es)
+  pub cut-keeps-memory : (es : List (List ℕ)) → memoryAfterList (thenCut es) ≡ memoryAfterList es
+  cut-keeps-memory es = memory-join es (cut ∷ []) model first ∙ cut-memory (modelAfter model first es) (memoryAfterList es)
 
   -- and without power it changes nothing: not the state, not the memory, not what the ledger was fed
   pub cut-without-power : (es : List (List ℕ)) → modelAfter model first es .bus ≡ Unpowered
       → (modelAfter model first (thenCut es) ≡ modelAfter model first es)
-      × (memoryOf (thenCut es) ≡ memoryOf es)
+      × (memoryAfterList (thenCut es) ≡ memoryAfterList es)
       × (historyOf model first (thenCut es) ≡ historyOf model first es)
   cut-without-power es e =
-      let r = cut-refused (modelAfter model first es) (memoryOf es) e in
+      let r = cut-refused (modelAfter model first es) (memoryAfterList es) e in
       (model-join es (cut ∷ []) model first ∙ r .1, cut-keeps-memory es, fed-join row es (cut ∷ []) model first [] ∙ rw (r .0))

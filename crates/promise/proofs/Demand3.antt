@@ -13,7 +13,7 @@ use Rattle.parts.specs.Table.{partOf}
 use Rattle.chip.specs.declared.model.BusState.{BusState}
 use Rattle.chip.specs.declared.model.BusState.the-variants.{Unpowered}
 use Rattle.chip.specs.declared.model.Model.{Model}
-use Rattle.chip.specs.Check.{noBits}
+use Rattle.chip.specs.Check.{bitsClear}
 use Rattle.chip.specs.Model.{modelOf, unpowered}
 use Rattle.chip.proofs.CheckLaws.{ModelIn, model-in}
 use Rattle.model.specs.declared.make.Made.{Made}
@@ -22,7 +22,7 @@ use Rattle.ledger.specs.History.{Entry}
 use Rattle.ledger.specs.Stores.{stored}
 use Rattle.ledger.specs.SpiLedger.{SavedBits, register}
 use Rattle.ledger.proofs.StoreLaws.{length-stored, getD-stored}
-use Rattle.promise.specs.Lists.{seen, modelAfter, memoryAfter}
+use Rattle.promise.specs.Lists.{observations, modelAfter, memoryAfter}
 use Rattle.promise.specs.Ledger.{savedIn, bitsNumber, ledgerStores}
 use Rattle.promise.specs.Promise.{cut, thenCut, historyOf, made, cutModel, cutMemory, cutHistory, cutBits, freshMade, Promise}
 use Rattle.promise.proofs.Ranges.{made-in, made-off, list-in}
@@ -44,10 +44,10 @@ status-again b = by (b .srwd) (b .bp1) (b .bp0)
     by false false true = refl
     by false false false = refl
 
-bits-again : (y : Bool) (b : SavedBits) → cond y true (noBits (register b false)) ≡ true → cond y (ltb (bitsNumber b) 8) (ltb (bitsNumber b) 1) ≡ true
+bits-again : (y : Bool) (b : SavedBits) → cond y true (bitsClear (register b false)) ≡ true → cond y (ltb (bitsNumber b) 8) (ltb (bitsNumber b) 1) ≡ true
 bits-again y b = by y (b .srwd) (b .bp1) (b .bp0)
   where
-    by : (y c d e : Bool) → cond y true (noBits (register (record { srwd = c; bp1 = d; bp0 = e }) false)) ≡ true
+    by : (y c d e : Bool) → cond y true (bitsClear (register (record { srwd = c; bp1 = d; bp0 = e }) false)) ≡ true
         → cond y (ltb (bitsNumber (record { srwd = c; bp1 = d; bp0 = e })) 8) (ltb (bitsNumber (record { srwd = c; bp1 = d; bp0 = e })) 1) ≡ true
     by true true true true h = refl
     by true true true false h = refl
@@ -125,7 +125,7 @@ module _ (part pins bits : ℕ) (first : List ℕ) (es : List (List ℕ)) where
         saved = ap savedIn status-is;
         makes = ap (λ (x : Made). x .number) remade;
         fresh = f;
-        later = λ ks. ap (λ (s : Model). seen s memory ks) f;
+        later = λ ks. ap (λ (s : Model). observations s memory ks) f;
       }
 
 -- a part, address pins and saved bits, any numbers; any first memory; any list of events, any bytes; then a cut

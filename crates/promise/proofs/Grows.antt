@@ -27,7 +27,7 @@ use Rattle.i2c.specs.Store as I2cStore
 use Rattle.chip.specs.declared.model.Model.{Model}
 use Rattle.ledger.specs.History.{Entry}
 use Rattle.ledger.specs.Stores.{Store}
-use Rattle.ledger.specs.SpiLedger.{unended, ended, powerOn, powerOff, selection, asleep, heard, enabled, SavedBits, register, bits}
+use Rattle.ledger.specs.SpiLedger.{unended, ended, powerOn, powerOff, selection, asleep, withoutIgnored, enabled, SavedBits, register, bits}
 use Rattle.ledger.specs.SpiLedger as SpiLedger
 use Rattle.ledger.specs.I2cLedger.{Clock, idle, span}
 use Rattle.ledger.specs.I2cLedger as I2cLedger
@@ -49,7 +49,7 @@ same ws = (Nothing, sym (append-nil ws))
 
 module _ (p : Part) (made : SavedBits) (wide : 0 < p .width) where
   abbrev spiStores : List SpiLedger.Item → List Store
-  spiStores is = SpiLedger.writes p made (heard p is)
+  spiStores is = SpiLedger.writes p made (withoutIgnored p is)
 
   select-grows : (y : Bool) (hs : List SpiLedger.Item)
       → Grown (SpiLedger.writes p made hs) (SpiLedger.writes p made (cond y hs (selection [] unended ∷ hs)))
@@ -74,18 +74,18 @@ module _ (p : Part) (made : SavedBits) (wide : 0 < p .width) where
   closed-grows wp [] = same _
   closed-grows wp (powerOn ∷ is) = same _
   closed-grows wp (powerOff ∷ is) = same _
-  closed-grows wp (selection bs unended ∷ is) = end-grows (asleep p is) bs wp (heard p is)
+  closed-grows wp (selection bs unended ∷ is) = end-grows (asleep p is) bs wp (withoutIgnored p is)
   closed-grows wp (selection bs (ended w) ∷ is) = same _
 
   bit-grows : (x : Bool) (is : List SpiLedger.Item) → Grown (spiStores is) (spiStores (SpiLedger.withBit x is))
   bit-grows x [] = same _
   bit-grows x (powerOn ∷ is) = same _
   bit-grows x (powerOff ∷ is) = same _
-  bit-grows x (selection bs unended ∷ is) = rise-grows (asleep p is) bs x (heard p is)
+  bit-grows x (selection bs unended ∷ is) = rise-grows (asleep p is) bs x (withoutIgnored p is)
   bit-grows x (selection bs (ended w) ∷ is) = same _
 
-  edge-grows : (e : SpiEdge.Edge) (wp : Bool) (is : List SpiLedger.Item) → Grown (spiStores is) (spiStores (SpiLedger.noted e wp is))
-  edge-grows SpiEdges.Select wp is = select-grows (asleep p is) (heard p is)
+  edge-grows : (e : SpiEdge.Edge) (wp : Bool) (is : List SpiLedger.Item) → Grown (spiStores is) (spiStores (SpiLedger.itemsOnEdge e wp is))
+  edge-grows SpiEdges.Select wp is = select-grows (asleep p is) (withoutIgnored p is)
   edge-grows SpiEdges.Deselect wp is = closed-grows wp is
   edge-grows (SpiEdges.Rise x) wp is = bit-grows x is
   edge-grows SpiEdges.Fall wp is = same _
@@ -115,7 +115,7 @@ module _ (p : Part) (pins : ℕ) (wired : Wired p pins) where
         rw (← span-wrote p pins wired b (ks ++ (k ∷ [])), wrote-more, span-wrote p pins wired, append-assoc),
       )
 
-  line-grows : (e : I2cEdge.Edge) (wp : Bool) (is : List I2cLedger.Item) → Grown (i2cStores is) (i2cStores (I2cLedger.noted e wp is))
+  line-grows : (e : I2cEdge.Edge) (wp : Bool) (is : List I2cLedger.Item) → Grown (i2cStores is) (i2cStores (I2cLedger.itemsOnEdge e wp is))
   line-grows I2cEdges.Start wp is = (Nothing, refl)
   line-grows I2cEdges.Stop wp is = same _
   line-grows (I2cEdges.Rise x) wp is = clock-grows (record { line = x; wp = wp }) is
@@ -147,5 +147,5 @@ pub ledger-proper : (made : Model) → 0 < partOf (made .part) .size → (h : Li
 ledger-proper made positive h = by (isSpi (partOf (made .part) .bus)) refl
   where
     by : (y : Bool) → isSpi (partOf (made .part) .bus) ≡ y → AllProper (partOf (made .part) .size) (ledgerStores made h)
-    by true q = rw q (spi-proper (partOf (made .part)) positive (savedIn (made .status)) (heard (partOf (made .part)) (SpiLedger.items h)))
+    by true q = rw q (spi-proper (partOf (made .part)) positive (savedIn (made .status)) (withoutIgnored (partOf (made .part)) (SpiLedger.items h)))
     by false q = rw q (i2c-proper (partOf (made .part)) positive (made .pins) (I2cLedger.items h))

@@ -26,7 +26,7 @@ use Rattle.chip.specs.Model.{modelOf}
 use Rattle.chip.proofs.CheckLaws.{sound-in, i2c-ready}
 use Rattle.ledger.specs.History.{Entry}
 use Rattle.ledger.specs.I2cLedger.{Clock, wiresAt, edgeBetween, lastWires, items}
-use Rattle.ledger.specs.I2cAnswers.{bufferBefore, bufferOf, none, after, lastFall, pulls, pullAnswer, presentAnswer}
+use Rattle.ledger.specs.I2cAnswers.{bufferBefore, bufferOf, noFall, afterRises, lastFall, pulls, pullAnswer, presentAnswer}
 use Rattle.ledger.proofs.WordLaws.{Wired}
 use Rattle.ledger.proofs.I2cAnswers.{Shows, buffer-is, carried-inside, pull-number, sample-shows, sample-answer, step-answer, power-shows}
 use Rattle.promise.specs.Lists.{modelAfter, memoryAfter}
@@ -46,7 +46,7 @@ module _ (made : Model) (first : List ℕ) (i2c : isSpi (partOf (made .part) .bu
 
   -- without power nothing is driven; under power phase, buffer and pull are what the history says
   abbrev pub ShowsOn : BusState → List Entry → Type 0
-  ShowsOn Unpowered h = (lastFall h ≡ none) × (presentAnswer h ≡ 2)
+  ShowsOn Unpowered h = (lastFall h ≡ noFall) × (presentAnswer h ≡ 2)
   ShowsOn (SpiOn x) h = ⊥
   ShowsOn (I2cOn x) h =
       Shows part (made .pins) first x (items h) (bufferBefore part (made .pins) h) (lastFall h)
@@ -158,7 +158,7 @@ module _ (made : Model) (first : List ℕ) (i2c : isSpi (partOf (made .part) .bu
           (items (historyOf made first es)) (f .0 .led)
 
       -- with a fall in the open span there is power, and the buffer at its START holds an address of the part
-      pub list-inside : (es : List (List ℕ)) (ks : List Clock) → lastFall (historyOf made first es) ≡ after ks
+      pub list-inside : (es : List (List ℕ)) (ks : List Clock) → lastFall (historyOf made first es) ≡ afterRises ks
           → bufferBefore part (made .pins) (historyOf made first es) .address < part .size
       list-inside es ks q = by (modelAfter made first es .bus) (list-fitting es .shows)
         where

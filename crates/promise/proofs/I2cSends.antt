@@ -17,7 +17,7 @@ use Rattle.serial.specs.Bits.{bitAt}
 use Rattle.ledger.specs.History.{Entry}
 use Rattle.ledger.specs.Word.{wordIn}
 use Rattle.ledger.specs.I2cLedger.{Clock, Byte, bytes, unfinished}
-use Rattle.ledger.specs.I2cAnswers.{after, lastFall, bufferBefore, memoryOf, pullAnswer, presentAnswer}
+use Rattle.ledger.specs.I2cAnswers.{afterRises, lastFall, bufferBefore, memoryNow, pullAnswer, presentAnswer}
 use Rattle.ledger.proofs.I2cSends.{AllLow, span-sends}
 use Rattle.promise.specs.Promise.{madeBy, historyOf}
 use Rattle.promise.proofs.Ranges.{made-in, made-off}
@@ -38,19 +38,19 @@ module _ (part pins bits : ℕ) (first : List ℕ) (es : List (List ℕ)) where
   from a16 = readAddress row (bufferBefore row (made .pins) history) a16
 
   module _ (i2c : isSpi (row .bus) ≡ false) where
-    from-within : (ks : List Clock) (a16 : Bool) → lastFall history ≡ after ks → from a16 < row .size
+    from-within : (ks : List Clock) (a16 : Bool) → lastFall history ≡ afterRises ks → from a16 < row .size
     from-within ks a16 q =
         read-within row (bufferBefore row (made .pins) history) a16 (part-fits (made .part) (model-in made (made-in part pins bits .0) .known))
         (list-inside made first i2c (made-in part pins bits) (made-off part pins bits) es ks q)
 
     -- SCL last fell after rises that make an own read word, then whole bytes vs that each asked for the next one, then k rises, k below
     -- 8: the answer is 0 exactly if bit 7 - k of the ledger's byte at the read address plus the number of vs, modulo the size, is 0; else 2
-    pub read-sends : (ks : List Clock) (word : Byte) (vs : List Byte) (a16 : Bool) → lastFall history ≡ after ks → bytes ks ≡ word ∷ vs
+    pub read-sends : (ks : List Clock) (word : Byte) (vs : List Byte) (a16 : Bool) → lastFall history ≡ afterRises ks → bytes ks ≡ word ∷ vs
         → wordIn row (made .pins) (word .bits) ≡ ReadWord a16 → AllLow vs → length (unfinished ks) < 8
         → presentAnswer history
-        ≡ pullAnswer (not (bitAt (getD (memoryOf row (made .pins) first history) ((from a16 + length vs) % row .size) 0) (length (unfinished ks))))
+        ≡ pullAnswer (not (bitAt (getD (memoryNow row (made .pins) first history) ((from a16 + length vs) % row .size) 0) (length (unfinished ks))))
     read-sends ks word vs a16 q n w l k =
         list-present made first i2c (made-in part pins bits) (made-off part pins bits) es
         ∙ rw q
-        (ap pullAnswer (span-sends row (memoryOf row (made .pins) first history) (made .pins) (bufferBefore row (made .pins) history) ks word vs a16
+        (ap pullAnswer (span-sends row (memoryNow row (made .pins) first history) (made .pins) (bufferBefore row (made .pins) history) ks word vs a16
         (from-within ks a16 q) n w l k))

@@ -44,7 +44,7 @@ read-late : (p : Part) (t : List ℕ) → LateRead (Trace.readOf p t)
 unfolding Trace.readOf
 read-late p t =
     by (eqb (length t) 0) (Trace.knownKind (p .bus) (getD t 0 0)) (ltb (length t) (Trace.eventLength (getD t 0 0)))
-    (fieldsIn p (Trace.eventOf (getD t 0 0) t)) (Trace.eventOf (getD t 0 0) t) (Trace.eventLength (getD t 0 0))
+    (fieldsIn p (Trace.parsedEvent (getD t 0 0) t)) (Trace.parsedEvent (getD t 0 0) t) (Trace.eventLength (getD t 0 0))
   where
     by : (a b c d : Bool) (e : Event) (n : ℕ)
         → LateRead (cond a (Refused R.Truncated) (cond b (cond c (Refused R.Truncated) (cond d (Whole e n) (Refused R.FieldRange))) (Refused R.UnknownKind)))
@@ -70,7 +70,7 @@ event-late : {s : Model} → Reached s → (m t : List ℕ) → Late (eventOf s 
 unfolding eventOf
 event-late {s} r m t = rw (reached-check r (length m)) (by (eqb (length m) (partOf (s .part) .size)))
   where
-    by : (y : Bool) → Late (One.onVerdict (cond y Passed (Failed R.MemoryLength)) s m t .result .number)
+    by : (y : Bool) → Late (One.eventOnVerdict (cond y Passed (Failed R.MemoryLength)) s m t .result .number)
     by true = on-read (Trace.readOf (partOf (s .part)) t) s m (read-late (partOf (s .part)) t)
     by false = (refl, refl)
 
@@ -87,7 +87,7 @@ run-late : {s : Model} → Reached s → (quota : ℕ) (t m : List ℕ) → Late
 unfolding runOf
 run-late {s} r quota t m = rw (reached-check r (length m)) (by (eqb (length m) (partOf (s .part) .size)))
   where
-    by : (y : Bool) → Late (Many.onVerdict (cond y Passed (Failed R.MemoryLength)) quota t s m .number)
+    by : (y : Bool) → Late (Many.runOnVerdict (cond y Passed (Failed R.MemoryLength)) quota t s m .number)
     by true = loop-late quota t s m r
     by false = (refl, refl)
 

@@ -19,13 +19,13 @@ use Rattle.chip.specs.declared.check.Verdict.{Verdict}
 use Rattle.chip.specs.declared.check.Verdict.the-variants.{Passed, Failed}
 use Rattle.chip.specs.declared.model.BusState.the-variants.{Unpowered}
 use Rattle.chip.specs.declared.model.Model.{Model}
-use Rattle.chip.specs.Check.{noBits, modelIn, busIn, checkOf, Sound}
+use Rattle.chip.specs.Check.{bitsClear, modelIn, busIn, checkOf, Sound}
 use Rattle.events.specs.Event.{advanceOf}
 use Rattle.chip.specs.Model.{unpowered}
 use Rattle.chip.proofs.CheckLaws.{model-in, model-test, sound-in}
 use Rattle.events.proofs.Keeps.{keeps}
 use Rattle.model.specs.declared.make.Made.{Made}
-use Rattle.runs.specs.Event.{onRead, onVerdict, eventOf}
+use Rattle.runs.specs.Event.{onRead, eventOnVerdict, eventOf}
 use Rattle.model.specs.Make.{statusOf, makeIn, makeOf}
 use Rattle.ledger.proofs.WordLaws.{Wired}
 use Rattle.promise.specs.Lists.{modelAfter}
@@ -44,9 +44,9 @@ range-wired s h = let r = model-in s (h .0) in omega (arith, r .wired, pins-fit 
 -- ---- making
 
 -- bits that a part without saved bits can be made with are all 0
-no-bits : (y : Bool) (bits : ℕ) → cond y (ltb bits 8) (ltb bits 1) ≡ true → cond y true (noBits (statusOf bits)) ≡ true
-no-bits true bits h = refl
-no-bits false bits h =
+bits-clear : (y : Bool) (bits : ℕ) → cond y (ltb bits 8) (ltb bits 1) ≡ true → cond y true (bitsClear (statusOf bits)) ≡ true
+bits-clear true bits h = refl
+bits-clear false bits h =
     let l : bits < 1 = ltb-true bits 1 h in
     let z : bits ≡ 0 = omega arith in
     rw z
@@ -60,7 +60,7 @@ made-in part pins bits = by (makeIn part pins bits) refl
     by true e =
         let a = and-both (ltb part 5) _ e in
         let b = and-both (ltb pins (partOf part .pins)) _ (a .1) in
-        (rw (a .0, b .0) (no-bits (partOf part .saved) bits (b .1)), refl)
+        (rw (a .0, b .0) (bits-clear (partOf part .saved) bits (b .1)), refl)
     by false e = (refl, refl)
 
 -- a model is made, unpowered
@@ -83,7 +83,7 @@ event-in s m t h = by (checkOf s (length m)) refl
     by-read (Whole e n) c q = sound-range (advanceOf s m e .result .model) (advanceOf s m e .memory) (keeps s m e c (suits (partOf (s .part)) t e n q))
     by-read (Refused r) c q = h
 
-    by : (v : Verdict) → checkOf s (length m) ≡ v → InRange (onVerdict v s m t .result .model)
+    by : (v : Verdict) → checkOf s (length m) ≡ v → InRange (eventOnVerdict v s m t .result .model)
     by Passed c = by-read (readOf (partOf (s .part)) t) c refl
     by (Failed r) c = h
 

@@ -12,7 +12,7 @@ use Rattle.chip.specs.declared.check.Verdict.{Verdict}
 use Rattle.chip.specs.declared.check.Verdict.the-variants.{Passed, Failed}
 use Rattle.chip.specs.declared.model.Model.{Model}
 use Rattle.chip.specs.Check.{modelIn, busIn, checkOf}
-use Rattle.runs.specs.Run.{loopOf, onVerdict, runOf}
+use Rattle.runs.specs.Run.{loopOf, runOnVerdict, runOf}
 use Rattle.runs.proofs.RunLaws.{loop-induction}
 use Rattle.promise.specs.Reached.{Reached, by-making, by-event, by-run}
 use Rattle.promise.proofs.Ranges.{InRange, made-in, event-in}
@@ -27,7 +27,7 @@ run-in : (quota : ℕ) (t : List ℕ) (s : Model) (m : List ℕ) → InRange s �
 unfolding runOf
 run-in quota t s m h = by (checkOf s (length m))
   where
-    by : (v : Verdict) → InRange (onVerdict v quota t s m .model)
+    by : (v : Verdict) → InRange (runOnVerdict v quota t s m .model)
     by Passed = loop-in quota t s m h
     by (Failed r) = h
 

@@ -21,7 +21,7 @@ use Rattle.chip.specs.declared.model.Model.{Model}
 use Rattle.chip.specs.Check.{checkOf}
 use Rattle.runs.specs.Event.{eventOf}
 use Rattle.runs.specs.Event as One
-use Rattle.runs.specs.Run.{Run, stop, after, onVerdict, loopOf, runOf}
+use Rattle.runs.specs.Run.{Run, stop, after, runOnVerdict, loopOf, runOf}
 use Rattle.runs.proofs.RunLaws.{taken, Stops, at-quota, at-end, at-refusal, loop-induction}
 use Rattle.promise.specs.Lists.{modelAfter, memoryAfter}
 use Rattle.promise.specs.Promise.{madeBy}
@@ -57,7 +57,7 @@ event-same : (s : Model) (m t : List ℕ) → eventOf s m (take (taken t) t) ≡
 unfolding eventOf
 event-same s m t = by (checkOf s (length m))
   where
-    by : (v : Verdict) → One.onVerdict v s m (take (taken t) t) ≡ One.onVerdict v s m t
+    by : (v : Verdict) → One.eventOnVerdict v s m (take (taken t) t) ≡ One.eventOnVerdict v s m t
     by Passed = rw (read-front (partOf (s .part)) t)
     by (Failed r) = refl
 
@@ -132,7 +132,7 @@ pub run-events : (q : ℕ) (t : List ℕ) (s : Model) (m : List ℕ) → ByEvent
 unfolding runOf eventOf
 run-events q t s m = by (checkOf s (length m)) refl
   where
-    by : (v : Verdict) → checkOf s (length m) ≡ v → ByEvents (split q t) s m (onVerdict v q t s m)
+    by : (v : Verdict) → checkOf s (length m) ≡ v → ByEvents (split q t) s m (runOnVerdict v q t s m)
     by Passed e = loop-ran q t s m
     by (Failed r) e = ran-refused (split q t) s m (refusalNumber r) (number-positive r) (failed (getD (split q t) 0 []))
       where

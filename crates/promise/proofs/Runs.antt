@@ -20,9 +20,9 @@ use Rattle.chip.specs.declared.check.Verdict.the-variants.{Passed, Failed}
 use Rattle.chip.specs.declared.model.Model.{Model}
 use Rattle.chip.specs.Check.{checkOf, Sound}
 use Rattle.events.specs.Event.{Outcome, keeping, refused, advanceOf}
-use Rattle.runs.specs.Event.{onRead, onVerdict, eventOf}
+use Rattle.runs.specs.Event.{onRead, eventOnVerdict, eventOf}
 use Rattle.ledger.specs.History.{Entry}
-use Rattle.promise.specs.Lists.{shown, seen, modelAfter, memoryAfter}
+use Rattle.promise.specs.Lists.{observed, observations, modelAfter, memoryAfter}
 use Rattle.promise.specs.Fed.{fedOne, fedFrom}
 use Rattle.parts.proofs.NumberLaws.{refusal-counts}
 
@@ -36,7 +36,7 @@ module _ (p : Part) (Fits : Model → List ℕ → List Entry → Type 0)
     → Fits (advanceOf s m e .result .model) (advanceOf s m e .memory) (entered e (advanceOf s m e) h)) where
   -- what an event of the bytes t gives agrees with the history then
   abbrev FitsAfter : List ℕ → List Entry → Outcome → Type 0
-  FitsAfter t h o = Fits (o .result .model) (o .memory) (fedOne p t (shown o) h)
+  FitsAfter t h o = Fits (o .result .model) (o .memory) (fedOne p t (observed o) h)
 
   module _ (s : Model) (m : List ℕ) (h : List Entry) (t : List ℕ) (f : Fits s m h) where
     refused-fits : (r : Refusal) → FitsAfter t h (keeping m (refused r s))
@@ -46,7 +46,7 @@ module _ (p : Part) (Fits : Model → List ℕ → List Entry → Type 0)
     read-fits (Whole e n) c q = rw q (step s m h e f c (suits p t e n q))
     read-fits (Refused r) c q = refused-fits r
 
-    check-fits : (v : Verdict) → checkOf s (length m) ≡ v → FitsAfter t h (onVerdict v s m t)
+    check-fits : (v : Verdict) → checkOf s (length m) ≡ v → FitsAfter t h (eventOnVerdict v s m t)
     check-fits Passed c = rw (same s m h f) (read-fits (readOf p t) c refl)
     check-fits (Failed r) c = refused-fits r
 
@@ -56,7 +56,7 @@ module _ (p : Part) (Fits : Model → List ℕ → List Entry → Type 0)
 
   -- an agreement that each event keeps holds after every list
   pub runs : (es : List (List ℕ)) (s : Model) (m : List ℕ) (h : List Entry) → Fits s m h
-      → Fits (modelAfter s m es) (memoryAfter s m es) (fedFrom p es (seen s m es) h)
+      → Fits (modelAfter s m es) (memoryAfter s m es) (fedFrom p es (observations s m es) h)
   runs [] s m h f = f
   runs (t ∷ es) s m h f =
-      runs es (eventOf s m t .result .model) (eventOf s m t .memory) (fedOne p t (shown (eventOf s m t)) h) (event-fits s m h t f)
+      runs es (eventOf s m t .result .model) (eventOf s m t .memory) (fedOne p t (observed (eventOf s m t)) h) (event-fits s m h t f)

@@ -40,7 +40,7 @@ use Rattle.ledger.proofs.SpiAnswers.{Shows, answer-held, held-two, sample-shows
 use Rattle.promise.specs.Lists.{modelAfter, memoryAfter}
 use Rattle.promise.specs.Ledger.{savedIn}
 use Rattle.promise.specs.Promise.{madeBy, historyOf}
-use Rattle.promise.specs.SpiAnswers.{seenAfter, SpiAnswers}
+use Rattle.promise.specs.SpiAnswers.{observedAfter, SpiAnswers}
 use Rattle.promise.proofs.Ranges.{InRange, made-in, made-off}
 use Rattle.promise.proofs.Stays.{accepted-whole}
 use Rattle.promise.proofs.Joins.{fed-join}
@@ -137,7 +137,7 @@ module _ (made : Model) (first : List ℕ) where
   -- ---- lists
 
   -- state, memory and history agree with the ledger, and so does each answer so far
-  pub record Answers (s : Model) (m : List ℕ) (h : List Entry) : Type 0 where
+  pub record AnswersSoFar (s : Model) (m : List ℕ) (h : List Entry) : Type 0 where
     pub fits : Fits made first s m h
     pub shows : ShowsOn (s .bus) (s .status) m h
     pub answered : Answered h
@@ -154,8 +154,8 @@ module _ (made : Model) (first : List ℕ) where
     unfolding advanceOf
     next-at b st m h e u f g q = event-next spi st m h q (part-fits (made .part) (model-in made (inside .0) .known)) b e u f g
 
-    answers-step : (s : Model) (m : List ℕ) (h : List Entry) (e : Event) → Answers s m h → Sound s m → Suits part e
-        → Answers (advanceOf s m e .result .model) (advanceOf s m e .memory) (entered e (advanceOf s m e) h)
+    answers-step : (s : Model) (m : List ℕ) (h : List Entry) (e : Event) → AnswersSoFar s m h → Sound s m → Suits part e
+        → AnswersSoFar (advanceOf s m e .result .model) (advanceOf s m e .memory) (entered e (advanceOf s m e) h)
     answers-step s m h e a c u =
         let q : s ≡ modelOf (made .part) (made .pins) (s .status) (s .bus) =
         ap₂ (λ (x y : ℕ). modelOf x y (s .status) (s .bus)) (a .fits .part-is) (a .fits .pins-are) in
@@ -166,10 +166,10 @@ module _ (made : Model) (first : List ℕ) where
 
     -- after every list
     pub list-answers : made .bus ≡ Unpowered → (es : List (List ℕ))
-        → Answers (modelAfter made first es) (memoryAfter made first es) (historyOf made first es)
+        → AnswersSoFar (modelAfter made first es) (memoryAfter made first es) (historyOf made first es)
     list-answers e es =
-        let a : Answers made first [] = record { fits = start made first inside e; shows = rw e; answered = tt } in
-        runs part Answers (λ s m h f. ap partOf (f .fits .part-is)) answers-step es made first [] a
+        let a : AnswersSoFar made first [] = record { fits = start made first inside e; shows = rw e; answered = tt } in
+        runs part AnswersSoFar (λ s m h f. ap partOf (f .fits .part-is)) answers-step es made first [] a
 
 -- ---- any making
 
@@ -185,18 +185,18 @@ module _ (number pins bits : ℕ) (first : List ℕ) where
     pub every-answer : (es : List (List ℕ)) → Answered model first (historyOf model first es)
     every-answer es = list-answers model first (made-in number pins bits) spi (made-off number pins bits) es .answered
 
-    module _ (es : List (List ℕ)) (t : List ℕ) (z : seenAfter model first es t .number ≡ 0) where
+    module _ (es : List (List ℕ)) (t : List ℕ) (z : observedAfter model first es t .number ≡ 0) where
       abbrev after : List Entry
       after = historyOf model first (es ++ (t ∷ []))
 
       -- an accepted event is the latest entry
       pub latest : (e : Event) (n : ℕ) → readOf row t ≡ Whole e n
-          → after ≡ record { event = e; answer = seenAfter model first es t .answer } ∷ historyOf model first es
+          → after ≡ record { event = e; answer = observedAfter model first es t .answer } ∷ historyOf model first es
       latest e n r =
-          let y : eqb (seenAfter model first es t .number) 0 ≡ true = rw z in
+          let y : eqb (observedAfter model first es t .number) 0 ≡ true = rw z in
           fed-join row es (t ∷ []) model first [] ∙ rw (y, r)
 
-      answer-is : seenAfter model first es t .answer ≡ spiAnswer row (savedIn (model .status)) first after
+      answer-is : observedAfter model first es t .answer ≡ spiAnswer row (savedIn (model .status)) first after
       answer-is =
           let s : Model = modelAfter model first es in
           let w = accepted-whole s (memoryAfter model first es) t (rw z) in

@@ -17,12 +17,12 @@ use Rattle.parts.proofs.Rows.{part-fits}
 use Rattle.chip.specs.declared.model.Model.{Model}
 use Rattle.chip.proofs.CheckLaws.{model-in}
 use Rattle.ledger.specs.Bits.{number}
-use Rattle.ledger.specs.SpiLedger.{Item, items, command, reading, heard, writes}
+use Rattle.ledger.specs.SpiLedger.{Item, items, command, reading, withoutIgnored, writes}
 use Rattle.ledger.specs.SpiAnswers.{memoryNow, registerNow}
 use Rattle.ledger.proofs.Proper.{stored-below, spi-proper}
 use Rattle.promise.specs.Ledger.{savedIn}
 use Rattle.promise.specs.Promise.{madeBy, historyOf}
-use Rattle.promise.specs.SpiBytes.{AllBytes, Clocked, byteOf, byteShown}
+use Rattle.promise.specs.SpiBytes.{AllBytes, Clocked, byteOfBits, byteShown}
 use Rattle.promise.proofs.Ranges.{made-in}
 use Rattle.promise.proofs.SpiAnswersShown.{rdsr-shows, read-shows}
 
@@ -30,16 +30,16 @@ use Rattle.promise.proofs.SpiAnswersShown.{rdsr-shows, read-shows}
 from-halves : (v a b c d e f g h : ℕ) (bits : ℕ → ℕ) (r : ℕ)
     → v ≡ 2 * a + bits 7 → a ≡ 2 * b + bits 6 → b ≡ 2 * c + bits 5 → c ≡ 2 * d + bits 4
     → d ≡ 2 * e + bits 3 → e ≡ 2 * f + bits 2 → f ≡ 2 * g + bits 1 → g ≡ 2 * h + bits 0
-    → v ≡ 256 * h + r → byteOf bits ≡ r
+    → v ≡ 256 * h + r → byteOfBits bits ≡ r
 from-halves v a b c d e f g h bits r p₁ p₂ p₃ p₄ p₅ p₆ p₇ p₈ q = omega arith
 
 -- the bits of a number's last byte make that byte
-eight-bits : (v : ℕ) → byteOf (λ k. v / 2 ^ (7 - k) % 2) ≡ v % 256
+eight-bits : (v : ℕ) → byteOfBits (λ k. v / 2 ^ (7 - k) % 2) ≡ v % 256
 eight-bits v =
     from-halves v (v / 2) (v / 4) (v / 8) (v / 16) (v / 32) (v / 64) (v / 128) (v / 256) (λ k. v / 2 ^ (7 - k) % 2) (v % 256)
     (omega arith) (omega arith) (omega arith) (omega arith) (omega arith) (omega arith) (omega arith) (omega arith) (omega arith)
 
-byte-same : (a b : ℕ → ℕ) → ((k : ℕ) → k < 8 → a k ≡ b k) → byteOf a ≡ byteOf b
+byte-same : (a b : ℕ → ℕ) → ((k : ℕ) → k < 8 → a k ≡ b k) → byteOfBits a ≡ byteOfBits b
 byte-same a b h =
     rw (h 0 (omega arith), h 1 (omega arith), h 2 (omega arith), h 3 (omega arith), h 4 (omega arith), h 5 (omega arith), h 6 (omega arith), h 7 (omega arith))
 
@@ -71,7 +71,7 @@ module _ (part pins bits : ℕ) (first : List ℕ) where
   -- the ledger's memory holds bytes
   now-below : AllBytes first → (es : List (List ℕ)) (a : ℕ) → getD (memoryNow row (savedIn (model .status)) first (historyOf model first es)) a 0 < 256
   now-below fits es a =
-      let is = heard row (items (historyOf model first es)) in
+      let is = withoutIgnored row (items (historyOf model first es)) in
       let positive = part-fits (model .part) (model-in model (made-in part pins bits .0) .known) .positive in
       stored-below (row .size) first (writes row (savedIn (model .status)) is) fits (spi-proper row positive (savedIn (model .status)) is) a
 

@@ -33,10 +33,10 @@ use Rattle.ledger.specs.History.{Entry}
 use Rattle.ledger.specs.SpiLedger.{unended, Item, selection, lastSample, items, command, reading, SavedBits}
 use Rattle.ledger.specs.SpiAnswers.{readShows, memoryNow, registerNow}
 use Rattle.ledger.proofs.SpiOutputs.{reading-more, rdsr-shown, read-shown}
-use Rattle.promise.specs.Lists.{Seen, modelAfter, memoryAfter}
+use Rattle.promise.specs.Lists.{Observed, modelAfter, memoryAfter}
 use Rattle.promise.specs.Ledger.{savedIn}
 use Rattle.promise.specs.Promise.{madeBy, historyOf}
-use Rattle.promise.specs.SpiAnswers.{seenAfter}
+use Rattle.promise.specs.SpiAnswers.{observedAfter}
 use Rattle.promise.specs.SpiBytes.{sample, fall, rise, clocks, Clocked}
 use Rattle.promise.proofs.Ranges.{made-in, made-off}
 use Rattle.promise.proofs.Agrees.{AgreesOn}
@@ -95,13 +95,13 @@ module _ (part pins bits : ℕ) (first : List ℕ) where
       by-bus (SpiOn y) x h p q c f g = rw (c, p, read-sample row x spi h, q)
       by-bus (I2cOn y) x h p q c f g = absurd (false≢true (sym (f .0) ∙ spi))
 
-      taken : (x : ℕ) → x < 32 → seenAfter model first es (sample x) .number ≡ 0
+      taken : (x : ℕ) → x < 32 → observedAfter model first es (sample x) .number ≡ 0
       taken x h =
           let a = list-answers model first (made-in part pins bits) spi (made-off part pins bits) es in
           by-bus (state .bus) x h (a .fits .part-is) refl (a .fits .passed) (a .fits .agrees) (a .shows)
 
       entry-of : (x : ℕ) → x < 32
-          → history (es ++ (sample x ∷ [])) ≡ record { event = Sample x; answer = seenAfter model first es (sample x) .answer } ∷ history es
+          → history (es ++ (sample x ∷ [])) ≡ record { event = Sample x; answer = observedAfter model first es (sample x) .answer } ∷ history es
       entry-of x h = latest part pins bits first spi es (sample x) (taken x h) (Sample x) 2 (read-sample row x spi h)
 
     -- ---- a fall
@@ -117,7 +117,7 @@ module _ (part pins bits : ℕ) (first : List ℕ) where
       fall-last = rw (entry-of es (c .selected) 24 (omega arith))
 
       -- it shows what the bits before it read
-      fall-answer : seenAfter model first es fall .answer
+      fall-answer : observedAfter model first es fall .answer
           ≡ readShows row (registerNow row made (history es)) (memoryNow row made first (history es)) (reading row bs) (length bs)
       fall-answer =
           spi-answers part pins bits first spi es fall (taken es (c .selected) 24 (omega arith))
@@ -143,8 +143,8 @@ module _ (part pins bits : ℕ) (first : List ℕ) where
 
     module _ (es : List (List ℕ)) (bs : List Bool) (is : List Item) (c : Clocked part pins bits first es bs is) (n : ℕ) where
       -- what the fall after n clocks shows
-      abbrev pub atFall : Seen
-      atFall = seenAfter model first (es ++ clocks n) fall
+      abbrev pub atFall : Observed
+      atFall = observedAfter model first (es ++ clocks n) fall
 
       fall-taken : atFall .number ≡ 0
       fall-taken = taken (es ++ clocks n) (more-clocks n es bs is c .selected) 24 (omega arith)

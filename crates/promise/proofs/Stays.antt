@@ -22,7 +22,7 @@ use Rattle.chip.specs.declared.model.Model.{Model}
 use Rattle.chip.specs.Check.{checkOf}
 use Rattle.chip.proofs.CheckLaws.{sound-in}
 use Rattle.events.specs.Event.{advanceOn, advanceOf}
-use Rattle.runs.specs.Event.{onRead, onVerdict, eventOf}
+use Rattle.runs.specs.Event.{onRead, eventOnVerdict, eventOf}
 use Rattle.promise.specs.Promise.{cut}
 
 module _ (s : Model) (m : List ℕ) where
@@ -36,7 +36,7 @@ module _ (s : Model) (m : List ℕ) where
       by-read (Whole e n) q h = (e, n, q)
       by-read (Refused r) q h = absurd (false≢true (sym (refusal-counts r) ∙ h))
 
-      by : (v : Verdict) → eqb (onVerdict v s m t .result .number) 0 ≡ true → (e : Event) × (n : ℕ) × readOf (partOf (s .part)) t ≡ Whole e n
+      by : (v : Verdict) → eqb (eventOnVerdict v s m t .result .number) 0 ≡ true → (e : Event) × (n : ℕ) × readOf (partOf (s .part)) t ≡ Whole e n
       by Passed h = by-read (readOf (partOf (s .part)) t) refl h
       by (Failed r) h = absurd (false≢true (sym (refusal-counts r) ∙ h))
 
@@ -45,7 +45,7 @@ module _ (s : Model) (m : List ℕ) where
   unfolding eventOf
   accepted-sized t = by (checkOf s (length m)) refl
     where
-      by : (v : Verdict) → checkOf s (length m) ≡ v → eqb (onVerdict v s m t .result .number) 0 ≡ true → length m ≡ partOf (s .part) .size
+      by : (v : Verdict) → checkOf s (length m) ≡ v → eqb (eventOnVerdict v s m t .result .number) 0 ≡ true → length m ≡ partOf (s .part) .size
       by Passed q h = sound-in s m q .sized
       by (Failed r) q h = absurd (false≢true (sym (refusal-counts r) ∙ h))
 
@@ -61,7 +61,7 @@ module _ (s : Model) (m : List ℕ) where
   unfolding eventOf readOf advanceOf
   cut-memory = by (checkOf s (length m))
     where
-      by : (v : Verdict) → onVerdict v s m cut .memory ≡ m
+      by : (v : Verdict) → eventOnVerdict v s m cut .memory ≡ m
       by Passed = off-memory (s .bus) (partOf (s .part))
       by (Failed r) = refl
 
@@ -72,6 +72,6 @@ module _ (s : Model) (m : List ℕ) where
   cut-refused e = by (checkOf s (length m))
     where
       by : (v : Verdict)
-          → (eqb (onVerdict v s m cut .result .number) 0 ≡ false) × (onVerdict v s m cut .result .model ≡ s) × (onVerdict v s m cut .memory ≡ m)
+          → (eqb (eventOnVerdict v s m cut .result .number) 0 ≡ false) × (eventOnVerdict v s m cut .result .model ≡ s) × (eventOnVerdict v s m cut .memory ≡ m)
       by Passed = rw e (refl, refl, refl)
       by (Failed r) = (refusal-counts r, refl, refl)

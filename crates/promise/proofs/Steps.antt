@@ -20,12 +20,12 @@ use Rattle.chip.specs.declared.check.Verdict.the-variants.{Passed, Failed}
 use Rattle.chip.specs.declared.model.BusState.{BusState}
 use Rattle.chip.specs.declared.model.BusState.the-variants.{Unpowered, SpiOn, I2cOn}
 use Rattle.chip.specs.declared.model.Model.{Model}
-use Rattle.chip.specs.Check.{noBits, checkOf, Sound}
+use Rattle.chip.specs.Check.{bitsClear, checkOf, Sound}
 use Rattle.events.specs.Event.{Outcome, advanceOf}
 use Rattle.chip.specs.Model.{modelOf}
 use Rattle.chip.proofs.CheckLaws.{model-in, sound-in}
 use Rattle.events.proofs.Keeps.{keeps}
-use Rattle.runs.specs.Event.{onVerdict, eventOf}
+use Rattle.runs.specs.Event.{eventOnVerdict, eventOf}
 use Rattle.ledger.specs.History.{Entry}
 use Rattle.ledger.specs.Stores.{stored}
 use Rattle.ledger.specs.SpiLedger.{register}
@@ -54,7 +54,7 @@ tested (I2cOn x) s m h = h
 all-off : (a b c w : Bool) → a ≡ false → b ≡ false → c ≡ false → w ≡ false → _≡_ {A = Status} (record { srwd = a; bp1 = b; bp0 = c; wel = w }) cleared
 all-off a b c w p q r t = rw (p, q, r, t)
 
-bare : (st : Status) → noBits st ≡ true → not (st .wel) ≡ true → st ≡ cleared
+bare : (st : Status) → bitsClear st ≡ true → not (st .wel) ≡ true → st ≡ cleared
 bare st h w =
     let a = and-both (not (st .srwd)) _ h in
     let b = and-both (not (st .bp1)) _ (a .1) in
@@ -152,7 +152,7 @@ module _ (s : Model) (m : List ℕ) where
   unfolding eventOf readOf advanceOf
   cut-by Unpowered e c = by (checkOf s (length m))
     where
-      by : (v : Verdict) → onVerdict v s m cut .result .model .bus ≡ Unpowered
+      by : (v : Verdict) → eventOnVerdict v s m cut .result .model .bus ≡ Unpowered
       by Passed = rw e
       by (Failed r) = e
   cut-by (SpiOn x) e c = rw (c, e)

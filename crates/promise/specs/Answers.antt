@@ -11,7 +11,7 @@ use Rattle.ledger.specs.SpiAnswers.{spiAnswer}
 use Rattle.ledger.specs.I2cAnswers.{i2cAnswer}
 use Rattle.promise.specs.Ledger.{savedIn}
 use Rattle.promise.specs.Promise.{madeBy, historyOf}
-use Rattle.promise.specs.SpiAnswers.{seenAfter}
+use Rattle.promise.specs.SpiAnswers.{observedAfter}
 
 -- what a history says of its last event's answer: by the open selection on SPI, by the open span on I2C
 abbrev pub ledgerAnswer : Model → List ℕ → List Entry → ℕ
@@ -28,5 +28,5 @@ module _ (part pins bits : ℕ) (first : List ℕ) where
   abbrev pub Answers : Type 0
   Answers =
       (es : List (List ℕ)) (t : List ℕ)
-      → seenAfter model first es t .number ≡ 0
-      → seenAfter model first es t .answer ≡ ledgerAnswer model first (historyOf model first (es ++ (t ∷ [])))
+      → observedAfter model first es t .number ≡ 0
+      → observedAfter model first es t .answer ≡ ledgerAnswer model first (historyOf model first (es ++ (t ∷ [])))

@@ -9,7 +9,7 @@ use Rattle.trace.specs.declared.read.Read.{Read}
 use Rattle.trace.specs.declared.read.Read.the-variants.{Whole, Refused}
 use Rattle.trace.specs.Read.{readOf}
 use Rattle.ledger.specs.History.{Entry}
-use Rattle.promise.specs.Lists.{Seen}
+use Rattle.promise.specs.Lists.{Observed}
 
 -- a history with one event more, if the bytes hold one; the latest first
 abbrev pub withEvent : Read → ℕ → List Entry → List Entry
@@ -17,15 +17,15 @@ withEvent (Whole e n) answer h = record { event = e; answer = answer } ∷ h
 withEvent (Refused r) answer h = h
 
 -- the history after an event of these bytes that showed x: an accepted event is entered with its answer, a refused one is not
-abbrev pub fedOne : Part → List ℕ → Seen → List Entry → List Entry
+abbrev pub fedOne : Part → List ℕ → Observed → List Entry → List Entry
 fedOne p t x h = cond (eqb (x .number) 0) (withEvent (readOf p t) (x .answer) h) h
 
 -- the history after a list and what its events showed, from a history on
-abbrev pub fedFrom : Part → List (List ℕ) → List Seen → List Entry → List Entry
+abbrev pub fedFrom : Part → List (List ℕ) → List Observed → List Entry → List Entry
 fedFrom p [] xs h = h
 fedFrom p (t ∷ es) [] h = h
 fedFrom p (t ∷ es) (x ∷ xs) h = fedFrom p es xs (fedOne p t x h)
 
 -- the history of a list, the latest first
-abbrev pub fed : Part → List (List ℕ) → List Seen → List Entry
+abbrev pub fed : Part → List (List ℕ) → List Observed → List Entry
 fed p es xs = fedFrom p es xs []

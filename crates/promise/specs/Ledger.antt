@@ -9,7 +9,7 @@ use Rattle.parts.specs.Table.{isSpi, partOf}
 use Rattle.chip.specs.declared.model.Model.{Model}
 use Rattle.ledger.specs.History.{Entry}
 use Rattle.ledger.specs.Stores.{Store}
-use Rattle.ledger.specs.SpiLedger.{SavedBits, noBits, heard}
+use Rattle.ledger.specs.SpiLedger.{SavedBits, zeroBits, withoutIgnored}
 use Rattle.ledger.specs.SpiLedger as SpiLedger
 use Rattle.ledger.specs.I2cLedger as I2cLedger
 
@@ -25,12 +25,12 @@ bitsNumber b = 4 * bit (b .srwd) + 2 * bit (b .bp1) + bit (b .bp0)
 abbrev pub ledgerStores : Model → List Entry → List Store
 ledgerStores made h =
     cond (isSpi (partOf (made .part) .bus))
-    (SpiLedger.writes (partOf (made .part)) (savedIn (made .status)) (heard (partOf (made .part)) (SpiLedger.items h)))
+    (SpiLedger.writes (partOf (made .part)) (savedIn (made .status)) (withoutIgnored (partOf (made .part)) (SpiLedger.items h)))
     (I2cLedger.writes (partOf (made .part)) (made .pins) (I2cLedger.items h))
 
 -- the saved bits: those of the last permitted status write, or those made; power off zeroes them on part 0; I2C parts have none
 abbrev pub ledgerBits : Model → List Entry → SavedBits
 ledgerBits made h =
     cond (isSpi (partOf (made .part) .bus))
-    (SpiLedger.bits (partOf (made .part)) (savedIn (made .status)) (heard (partOf (made .part)) (SpiLedger.items h)))
-    noBits
+    (SpiLedger.bits (partOf (made .part)) (savedIn (made .status)) (withoutIgnored (partOf (made .part)) (SpiLedger.items h)))
+    zeroBits

@@ -7,18 +7,18 @@ use Rattle.events.specs.Event.{Outcome}
 use Rattle.runs.specs.Event.{eventOf}
 
 -- what an event shows: its number, its answer, and the memory after it
-pub record Seen : Type 0 where
+pub record Observed : Type 0 where
   pub number : ℕ
   pub answer : ℕ
   pub memory : List ℕ
 
-abbrev pub shown : Outcome → Seen
-shown o = record { number = o .result .number; answer = o .result .answer; memory = o .memory }
+abbrev pub observed : Outcome → Observed
+observed o = record { number = o .result .number; answer = o .result .answer; memory = o .memory }
 
 -- what each event of a list shows, the first first
-abbrev pub seen : Model → List ℕ → List (List ℕ) → List Seen
-seen s m [] = []
-seen s m (t ∷ es) = shown (eventOf s m t) ∷ seen (eventOf s m t .result .model) (eventOf s m t .memory) es
+abbrev pub observations : Model → List ℕ → List (List ℕ) → List Observed
+observations s m [] = []
+observations s m (t ∷ es) = observed (eventOf s m t) ∷ observations (eventOf s m t .result .model) (eventOf s m t .memory) es
 
 -- the state after a list
 abbrev pub modelAfter : Model → List ℕ → List (List ℕ) → Model

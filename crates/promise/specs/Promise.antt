@@ -10,7 +10,7 @@ use Rattle.model.specs.Make.{makeOf}
 use Rattle.ledger.specs.History.{Entry}
 use Rattle.ledger.specs.Stores.{lastAt}
 use Rattle.ledger.specs.SpiLedger.{SavedBits}
-use Rattle.promise.specs.Lists.{seen, modelAfter, memoryAfter}
+use Rattle.promise.specs.Lists.{observations, modelAfter, memoryAfter}
 use Rattle.promise.specs.Fed.{fed}
 use Rattle.promise.specs.Ledger.{savedIn, bitsNumber, ledgerStores, ledgerBits}
 
@@ -27,7 +27,7 @@ thenCut es = es ++ (cut ∷ [])
 
 -- the accepted events of a list on a model just made, with their answers
 abbrev pub historyOf : Model → List ℕ → List (List ℕ) → List Entry
-historyOf made first es = fed (partOf (made .part)) es (seen made first es)
+historyOf made first es = fed (partOf (made .part)) es (observations made first es)
 
 -- any numbers of a making, any first memory, any list of events, then a cut
 module _ (part pins bits : ℕ) (first : List ℕ) (es : List (List ℕ)) where
@@ -65,4 +65,4 @@ module _ (part pins bits : ℕ) (first : List ℕ) (es : List (List ℕ)) where
     -- the model is exactly the one that it makes
     pub fresh : cutModel ≡ freshMade .model
     -- every later list, with a copy of the memory for each model: number, answer and memory agree after each event
-    pub later : (ks : List (List ℕ)) → seen cutModel cutMemory ks ≡ seen (freshMade .model) cutMemory ks
+    pub later : (ks : List (List ℕ)) → observations cutModel cutMemory ks ≡ observations (freshMade .model) cutMemory ks

@@ -9,7 +9,7 @@ use Rattle.trace.specs.Read.{eventLength}
 use Rattle.chip.specs.declared.model.Model.{Model}
 use Rattle.runs.specs.Event.{eventOf}
 use Rattle.runs.specs.Run.{Run, runOf}
-use Rattle.promise.specs.Lists.{Seen, seen, modelAfter, memoryAfter}
+use Rattle.promise.specs.Lists.{Observed, observations, modelAfter, memoryAfter}
 use Rattle.promise.specs.Promise.{madeBy, Promise}
 
 -- at most q events of a trace; the last one may be cut short
@@ -17,11 +17,11 @@ abbrev pub split : ℕ → List ℕ → List (List ℕ)
 split zero t = []
 split (suc q) t = cond (eqb (length t) 0) [] (take (eventLength (getD t 0 0)) t ∷ split q (drop (eventLength (getD t 0 0)) t))
 
-abbrev pub numbersOf : List Seen → List ℕ
+abbrev pub numbersOf : List Observed → List ℕ
 numbersOf [] = []
 numbersOf (x ∷ xs) = x .number ∷ numbersOf xs
 
-abbrev pub answersOf : List Seen → List ℕ
+abbrev pub answersOf : List Observed → List ℕ
 answersOf [] = []
 answersOf (x ∷ xs) = x .answer ∷ answersOf xs
 
@@ -31,8 +31,8 @@ pub record ByEvents (es : List (List ℕ)) (s : Model) (m : List ℕ) (r : Run) 
   pub model : modelAfter s m (take (r .count) es) ≡ r .model
   pub memory : memoryAfter s m (take (r .count) es) ≡ r .memory
   -- each was accepted, with these answers
-  pub accepted : numbersOf (seen s m (take (r .count) es)) ≡ replicate (r .count) 0
-  pub answers : answersOf (seen s m (take (r .count) es)) ≡ r .answers
+  pub accepted : numbersOf (observations s m (take (r .count) es)) ≡ replicate (r .count) 0
+  pub answers : answersOf (observations s m (take (r .count) es)) ≡ r .answers
   -- it stopped at an event that is refused with its number, or it took them all
   pub refused : (r .number ≡ 0 → ⊥) → eventOf (r .model) (r .memory) (getD es (r .count) []) .result .number ≡ r .number
   pub whole : r .number ≡ 0 → r .count ≡ length es

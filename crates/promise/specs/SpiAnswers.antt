@@ -8,13 +8,13 @@ use Rattle.parts.specs.Table.{isSpi, partOf}
 use Rattle.chip.specs.declared.model.Model.{Model}
 use Rattle.runs.specs.Event.{eventOf}
 use Rattle.ledger.specs.SpiAnswers.{spiAnswer}
-use Rattle.promise.specs.Lists.{Seen, shown, modelAfter, memoryAfter}
+use Rattle.promise.specs.Lists.{Observed, observed, modelAfter, memoryAfter}
 use Rattle.promise.specs.Ledger.{savedIn}
 use Rattle.promise.specs.Promise.{madeBy, historyOf}
 
 -- what an event of the bytes t shows after the list es
-abbrev pub seenAfter : Model → List ℕ → List (List ℕ) → List ℕ → Seen
-seenAfter made first es t = shown (eventOf (modelAfter made first es) (memoryAfter made first es) t)
+abbrev pub observedAfter : Model → List ℕ → List (List ℕ) → List ℕ → Observed
+observedAfter made first es t = observed (eventOf (modelAfter made first es) (memoryAfter made first es) t)
 
 module _ (part pins bits : ℕ) (first : List ℕ) where
   abbrev model : Model
@@ -26,5 +26,5 @@ module _ (part pins bits : ℕ) (first : List ℕ) where
   SpiAnswers =
       isSpi (partOf (model .part) .bus) ≡ true
       → (es : List (List ℕ)) (t : List ℕ)
-      → seenAfter model first es t .number ≡ 0
-      → seenAfter model first es t .answer ≡ spiAnswer (partOf (model .part)) (savedIn (model .status)) first (historyOf model first (es ++ (t ∷ [])))
+      → observedAfter model first es t .number ≡ 0
+      → observedAfter model first es t .answer ≡ spiAnswer (partOf (model .part)) (savedIn (model .status)) first (historyOf model first (es ++ (t ∷ [])))

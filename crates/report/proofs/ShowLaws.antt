@@ -12,7 +12,7 @@ use Rattle.runs.specs.Run.{Run, ranOf}
 use Rattle.runs.specs.Rules.{Counted}
 use Rattle.model.proofs.MadeLaws.{made-counted}
 use Rattle.report.specs.declared.show.Report.{Report}
-use Rattle.report.specs.Report.{unlimited, shownRun, reportOf, textOf, memoryOf}
+use Rattle.report.specs.Report.{unlimited, shownRun, reportOf, textOf, memoryAfterRun}
 use Rattle.report.specs.Text.{text}
 
 -- of a run on a part just made, and of the room for answers after it
@@ -22,7 +22,7 @@ pub record Shown (part : ℕ) (t m : List ℕ) (ran : Ran) (answers memory : Lis
   pub taken : ran .count ≡ length (take (ran .count) answers)
   pub reported : {n : ℕ} → n ≡ length (text 0 (take (ran .count) answers))
       → _≡_ {A = Report} (record { long = false; number = ran .number; count = ran .count; offset = ran .offset; length = n }) (reportOf part t m)
-  pub remembered : memory ≡ memoryOf part t m
+  pub remembered : memory ≡ memoryAfterRun part t m
   pub written : (out : List ℕ) → sets out 0 (text 0 (take (ran .count) answers)) ≡ sets out 0 (textOf part t m)
 
 -- the answers are found again at the front of any room that is wide enough

@@ -35,5 +35,5 @@ reportOf part t m =
 abbrev pub textOf : ℕ → List ℕ → List ℕ → List ℕ
 textOf part t m = cond (tooLong t) [] (text 0 (shownRun part t m .answers))
 
-abbrev pub memoryOf : ℕ → List ℕ → List ℕ → List ℕ
-memoryOf part t m = cond (tooLong t) m (shownRun part t m .memory)
+abbrev pub memoryAfterRun : ℕ → List ℕ → List ℕ → List ℕ
+memoryAfterRun part t m = cond (tooLong t) m (shownRun part t m .memory)

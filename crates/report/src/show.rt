@@ -2,7 +2,7 @@
 ghost use mathlib.Core.Path.{_≡_};
 ghost use lib.ListN.{length, replicate};
 ghost use lib.Seq.{sets};
-ghost use Rattle.report.specs.Report.{reportOf, textOf, memoryOf};
+ghost use Rattle.report.specs.Report.{reportOf, textOf, memoryAfterRun};
 
 // What the run gave; the text of its answers has length bytes.
 pub struct Report {
@@ -24,7 +24,7 @@ fn no_answers() -> [u8; 65536]
 // as there is room.
 pub fn show(part: u32, trace: &[u8], memory: &mut [u8], out: &mut [u8]) -> Report
     ensures report { λ r. ⌜ r ≡ reportOf part (now (trace .entry)) (now (memory .entry)) ⌝ }
-    ensures memory { λ r. ⌜ now (memory .exit) ≡ memoryOf part (now (trace .entry)) (now (memory .entry)) ⌝ }
+    ensures memory { λ r. ⌜ now (memory .exit) ≡ memoryAfterRun part (now (trace .entry)) (now (memory .entry)) ⌝ }
     ensures text { λ r. ⌜ now (out .exit) ≡ sets (now (out .entry)) 0 (textOf part (now (trace .entry)) (now (memory .entry))) ⌝ }
 {
     if 65536 < trace.len() {

@@ -19,7 +19,7 @@ use Rattle.chip.specs.Check.{checkOf, Sound}
 use Rattle.events.proofs.Keeps.{keeps}
 use Rattle.events.specs.Stays.{Stays}
 use Rattle.events.proofs.Stays.{unchanged, stays}
-use Rattle.runs.specs.Event.{onRead, onVerdict, eventOf}
+use Rattle.runs.specs.Event.{onRead, eventOnVerdict, eventOf}
 
 module _ (s : Model) (m t : List ℕ) (sound : Sound s m) where
   -- a whole event is carried out
@@ -56,6 +56,6 @@ event-stays s m t = by (checkOf s (length m))
     by-read (Whole e n) = stays s m e
     by-read (Refused r) = unchanged s m _
 
-    by : (v : Verdict) → Stays s m (onVerdict v s m t)
+    by : (v : Verdict) → Stays s m (eventOnVerdict v s m t)
     by Passed = by-read (readOf (partOf (s .part)) t)
     by (Failed r) = unchanged s m _

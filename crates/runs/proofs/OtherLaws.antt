@@ -19,13 +19,13 @@ use Rattle.trace.proofs.ReadLaws.{taken-within}
 use Rattle.chip.specs.Check.{Sound}
 use Rattle.events.specs.declared.event.Answered.{Answered}
 use Rattle.events.specs.Event.{advanceOf}
-use Rattle.events.proofs.ApartLaws.{apart-keeps}
-use Rattle.samples.specs.declared.reached.Reached.{Reached}
+use Rattle.events.proofs.OtherEventLaws.{other-keeps}
+use Rattle.samples.specs.declared.progress.Progress.{Progress}
 use Rattle.steps.specs.declared.other.Other.{Other}
 use Rattle.steps.specs.Other.{other, otherOf, otherNoted}
 use Rattle.runs.specs.Run.{ran, loopOf}
 use Rattle.runs.proofs.RunLaws.{Final, final, finalOf, left-over, left-used, left-unread, left-unmoved, left-moved, moved-sound, moved-part}
-use Rattle.runs.proofs.SamplesRun.{Here, here-apart}
+use Rattle.runs.proofs.SamplesRun.{Here, here-other}
 
 -- the run with the event x and the answers b: refused, it is over; accepted, it goes on
 pub record Went (p : Part) (t : List ℕ) (q : ℕ) (goal : Final) (c : ℕ) (m : List ℕ) (x : Other) (b : List ℕ) : Type 0 where
@@ -35,7 +35,7 @@ pub record Went (p : Part) (t : List ℕ) (q : ℕ) (goal : Final) (c : ℕ) (m 
   pub over : (x .number ≡ 0 → ⊥) → finalOf (ran (x .number) (x .model) c (x .offset)) m b ≡ goal
   pub left : x .number ≡ 0 → final (c + 1) (x .offset) b (loopOf (q - (c + 1)) (drop (x .offset) t) (x .model) m) ≡ goal
 
-module _ (p : Part) (t : List ℕ) (q : ℕ) (goal : Final) (c : ℕ) (s : Reached) (m buf : List ℕ) (h : Here p t q goal c s m buf) where
+module _ (p : Part) (t : List ℕ) (q : ℕ) (goal : Final) (c : ℕ) (s : Progress) (m buf : List ℕ) (h : Here p t q goal c s m buf) where
   -- no quota, or the end of the trace
   pub used : (q ≤ s .count) ⊎ (length t ≤ s .offset) → finalOf (ran 0 (s .model) (s .count) (s .offset)) m buf ≡ goal
   used z =
@@ -64,7 +64,7 @@ module _ (p : Part) (t : List ℕ) (q : ℕ) (goal : Final) (c : ℕ) (s : Reach
         read = rw (h .part) at k
 
         kept : m ≡ advanceOf (s .model) m e .memory
-        kept = sym (apart-keeps (s .model) m e (rw k at (here-apart p t q goal c s m buf h more)))
+        kept = sym (other-keeps (s .model) m e (rw k at (here-other p t q goal c s m buf h more)))
 
         by : (y : Bool) → eqb (a .number) 0 ≡ y
             → Went p t q goal (s .count) m (cond y (other 0 (a .model) (s .offset + n)) (other (a .number) (s .model) (s .offset))) (cond y (set buf (s .count) (a .answer)) buf)

@@ -9,7 +9,7 @@ use Rattle.chip.specs.declared.check.Verdict.{Verdict}
 use Rattle.chip.specs.declared.check.Verdict.the-variants.{Passed, Failed}
 use Rattle.chip.specs.declared.model.Model.{Model}
 use Rattle.chip.specs.Check.{checkOf}
-use Rattle.runs.specs.Run.{Run, after, onVerdict, loopOf, runOf}
+use Rattle.runs.specs.Run.{Run, after, runOnVerdict, loopOf, runOf}
 use Rattle.runs.specs.Rules.{Counted}
 use Rattle.runs.proofs.RunLaws.{taken, loop-induction}
 
@@ -32,6 +32,6 @@ pub run-counted : (q : ℕ) (t : List ℕ) (s : Model) (m : List ℕ) → Counte
 unfolding runOf
 run-counted q t s m = by (checkOf s (length m))
   where
-    by : (v : Verdict) → Counted (length t) (onVerdict v q t s m)
+    by : (v : Verdict) → Counted (length t) (runOnVerdict v q t s m)
     by Passed = loop-counted q t s m
     by (Failed r) = record { answered = refl; within = omega arith }

@@ -12,8 +12,8 @@ use Rattle.chip.specs.declared.check.Verdict.the-variants.{Passed, Failed}
 use Rattle.chip.specs.declared.model.Model.{Model}
 use Rattle.chip.specs.Check.{checkOf, Sound}
 use Rattle.runs.specs.Event.{eventOf}
-use Rattle.runs.specs.Run.{Run, stop, after, onVerdict, loopOf, runOf}
-use Rattle.runs.specs.Rules.{joined}
+use Rattle.runs.specs.Run.{Run, stop, after, runOnVerdict, loopOf, runOf}
+use Rattle.runs.specs.Rules.{joinedRuns}
 use Rattle.runs.proofs.EventLaws.{event-sound}
 use Rattle.runs.proofs.RunLaws.{taken, loop-over, loop-accepted, Stops, at-quota, at-end, at-refusal, loop-induction}
 
@@ -31,16 +31,16 @@ loop-sound =
 
 -- ---- the rule
 
-joined-start : (s : Model) (m : List ℕ) (r : Run) → joined (stop 0 s m) r ≡ r
+joined-start : (s : Model) (m : List ℕ) (r : Run) → joinedRuns (stop 0 s m) r ≡ r
 joined-start s m r = rw (zero-add (r .count), zero-add (r .offset))
 
-joined-after : (a n : ℕ) (r u : Run) → joined (after a n r) u ≡ after a n (joined r u)
+joined-after : (a n : ℕ) (r u : Run) → joinedRuns (after a n r) u ≡ after a n (joinedRuns r u)
 joined-after a n r u = rw (add-assoc 1 (r .count) (u .count), add-assoc n (r .offset) (u .offset))
 
 module _ (k : ℕ) where
   -- the run r of j events is the first part of one of j + k
   abbrev First : ℕ → List ℕ → Model → List ℕ → Run → Type 0
-  First j t s m r = r .number ≡ 0 → loopOf (j + k) t s m ≡ joined r (rest k t r)
+  First j t s m r = r .number ≡ 0 → loopOf (j + k) t s m ≡ joinedRuns r (rest k t r)
 
   rule-stops : (j n : ℕ) (t : List ℕ) (s : Model) (m : List ℕ) → Stops t s m j n → First j t s m (stop n s m)
   rule-stops j n t s m at-quota h = rw zero-add (sym (joined-start s m (loopOf k t s m)))
@@ -55,17 +55,17 @@ module _ (k : ℕ) where
       (sym (joined-after (eventOf s m t .result .answer) (taken t) r (loopOf k (drop (taken t + r .offset) t) (r .model) (r .memory))))
 
 pub loop-rule : (j k : ℕ) (t : List ℕ) (s : Model) (m : List ℕ) → loopOf j t s m .number ≡ 0
-    → loopOf (j + k) t s m ≡ joined (loopOf j t s m) (rest k t (loopOf j t s m))
+    → loopOf (j + k) t s m ≡ joinedRuns (loopOf j t s m) (rest k t (loopOf j t s m))
 loop-rule j k t s m = loop-induction (First k) (rule-stops k) (rule-goes-on k) j t s m
 
 pub run-rule : (j k : ℕ) (t : List ℕ) (s : Model) (m : List ℕ) → runOf j t s m .number ≡ 0
-    → runOf (j + k) t s m ≡ joined (runOf j t s m) (runOf k (drop (runOf j t s m .offset) t) (runOf j t s m .model) (runOf j t s m .memory))
+    → runOf (j + k) t s m ≡ joinedRuns (runOf j t s m) (runOf k (drop (runOf j t s m .offset) t) (runOf j t s m .model) (runOf j t s m .memory))
 unfolding runOf
 run-rule j k t s m h = by (checkOf s (length m)) refl h
   where
-    by : (v : Verdict) → checkOf s (length m) ≡ v → onVerdict v j t s m .number ≡ 0
-        → onVerdict v (j + k) t s m
-        ≡ joined (onVerdict v j t s m)
-        (runOf k (drop (onVerdict v j t s m .offset) t) (onVerdict v j t s m .model) (onVerdict v j t s m .memory))
+    by : (v : Verdict) → checkOf s (length m) ≡ v → runOnVerdict v j t s m .number ≡ 0
+        → runOnVerdict v (j + k) t s m
+        ≡ joinedRuns (runOnVerdict v j t s m)
+        (runOf k (drop (runOnVerdict v j t s m .offset) t) (runOnVerdict v j t s m .model) (runOnVerdict v j t s m .memory))
     by Passed e z = rw (loop-sound j t s m e) (loop-rule j k t s m z)
     by (Failed r) e z = absurd (number-positive r z)

@@ -18,10 +18,10 @@ use Rattle.trace.proofs.ReadLaws.{taken-within}
 use Rattle.chip.specs.declared.model.Model.{Model}
 use Rattle.chip.specs.Check.{Sound}
 use Rattle.events.proofs.Stays.{stays}
-use Rattle.samples.specs.declared.reached.Reached.{Reached}
-use Rattle.steps.specs.Other.{ReadApart}
-use Rattle.samples.specs.Samples.{Samples, none, one, staysOn, firstDone, samplesOf, reachedBy}
-use Rattle.samples.proofs.NextLaws.{next-read, next-apart, next-accepted}
+use Rattle.samples.specs.declared.progress.Progress.{Progress}
+use Rattle.steps.specs.Other.{ReadOtherThanSample}
+use Rattle.samples.specs.Samples.{Samples, none, one, staysOn, firstDone, samplesOf, progressBy}
+use Rattle.samples.proofs.NextLaws.{next-read, next-other, next-accepted}
 use Rattle.samples.proofs.SamplesLaws.{samples-zero, samples-none, samples-one}
 use Rattle.runs.specs.Run.{Run, after, loopOf}
 use Rattle.runs.proofs.EventLaws.{event-whole, event-taken, event-keeps}
@@ -110,7 +110,7 @@ front (suc q) t s m h = by (staysOn (s .bus) t) refl (front q (drop 2 t) (firstD
 -- ---- a run that has got so far takes the samples at hand
 
 -- where it is then: what is left leads to the goal, and another event is next
-pub record Here (p : Part) (t : List ℕ) (q : ℕ) (goal : Final) (c : ℕ) (r : Reached) (m buf : List ℕ) : Type 0 where
+pub record Here (p : Part) (t : List ℕ) (q : ℕ) (goal : Final) (c : ℕ) (r : Progress) (m buf : List ℕ) : Type 0 where
   pub sound : Sound (r .model) m
   pub part : p ≡ partOf (r .model .part)
   pub onward : c ≤ r .count
@@ -131,7 +131,7 @@ module _ (p : Part) (t : List ℕ) (q c o : ℕ) (s : Model) (m buf : List ℕ) 
       let e : (q - c) - taken-samples .count ≡ q - (c + taken-samples .count) = omega arith in
       rw (f .run, drop-drop, e, sets-append, f .counted, ← add-assoc, ← add-assoc) at left
 
-  pub samples-here : (r : Reached) (w b : List ℕ) → r ≡ reachedBy c o taken-samples → w ≡ taken-samples .memory → b ≡ sets buf c (taken-samples .answers)
+  pub samples-here : (r : Progress) (w b : List ℕ) → r ≡ progressBy c o taken-samples → w ≡ taken-samples .memory → b ≡ sets buf c (taken-samples .answers)
       → Here p t q goal c r w b
   samples-here r w b x y z =
       let f = front (q - c) (drop o t) s m sound in
@@ -147,10 +147,10 @@ module _ (p : Part) (t : List ℕ) (q c o : ℕ) (s : Model) (m buf : List ℕ) 
       })
 
 -- an event there is no sample under power
-pub here-apart : (p : Part) (t : List ℕ) (q : ℕ) (goal : Final) (c : ℕ) (r : Reached) (m buf : List ℕ) → Here p t q goal c r m buf → r .count < q
-    → ReadApart (readOf p (drop (r .offset) t)) (r .model .bus)
-here-apart p t q goal c r m buf h more = by (readOf p (drop (r .offset) t)) refl
+pub here-other : (p : Part) (t : List ℕ) (q : ℕ) (goal : Final) (c : ℕ) (r : Progress) (m buf : List ℕ) → Here p t q goal c r m buf → r .count < q
+    → ReadOtherThanSample (readOf p (drop (r .offset) t)) (r .model .bus)
+here-other p t q goal c r m buf h more = by (readOf p (drop (r .offset) t)) refl
   where
-    by : (x : Read) → readOf p (drop (r .offset) t) ≡ x → ReadApart x (r .model .bus)
-    by (Whole e n) k = next-apart (r .model) m (h .sound) (drop (r .offset) t) e n (h .over more) (rw (h .part) at k)
+    by : (x : Read) → readOf p (drop (r .offset) t) ≡ x → ReadOtherThanSample x (r .model .bus)
+    by (Whole e n) k = next-other (r .model) m (h .sound) (drop (r .offset) t) e n (h .over more) (rw (h .part) at k)
     by (Refused f) k = tt

@@ -21,9 +21,9 @@ onRead (Refused r) s m = keeping m (refused r s)
 abbrev pub checkedEvent : Model → List ℕ → List ℕ → Outcome
 checkedEvent s m t = onRead (readOf (partOf (s .part)) t) s m
 
-abbrev pub onVerdict : Verdict → Model → List ℕ → List ℕ → Outcome
-onVerdict Passed s m t = checkedEvent s m t
-onVerdict (Failed r) s m t = keeping m (refused r s)
+abbrev pub eventOnVerdict : Verdict → Model → List ℕ → List ℕ → Outcome
+eventOnVerdict Passed s m t = checkedEvent s m t
+eventOnVerdict (Failed r) s m t = keeping m (refused r s)
 
 unfoldable pub eventOf : Model → List ℕ → List ℕ → Outcome
-eventOf s m t = onVerdict (checkOf s (length m)) s m t
+eventOf s m t = eventOnVerdict (checkOf s (length m)) s m t

@@ -6,8 +6,8 @@ use lib.ListN.{length}
 use Rattle.runs.specs.Run.{Run}
 
 -- one run after another: counts and offsets added, answers put together, the rest from the second
-abbrev pub joined : Run → Run → Run
-joined a b =
+abbrev pub joinedRuns : Run → Run → Run
+joinedRuns a b =
     record {
       number = b .number;
       model = b .model;

@@ -55,10 +55,10 @@ loopOf (suc quota) t s m =
     (loopOf quota (drop (eventLength (getD t 0 0)) t) (eventOf s m t .result .model) (eventOf s m t .memory)))
     (stop (eventOf s m t .result .number) s m))
 
-abbrev pub onVerdict : Verdict → ℕ → List ℕ → Model → List ℕ → Run
-onVerdict Passed quota t s m = loopOf quota t s m
-onVerdict (Failed r) quota t s m = stop (refusalNumber r) s m
+abbrev pub runOnVerdict : Verdict → ℕ → List ℕ → Model → List ℕ → Run
+runOnVerdict Passed quota t s m = loopOf quota t s m
+runOnVerdict (Failed r) quota t s m = stop (refusalNumber r) s m
 
 -- a run tests 1 to 3 first, even for an empty trace or quota 0
 unfoldable pub runOf : ℕ → List ℕ → Model → List ℕ → Run
-runOf quota t s m = onVerdict (checkOf s (length m)) quota t s m
+runOf quota t s m = runOnVerdict (checkOf s (length m)) quota t s m

@@ -42,7 +42,7 @@ pub fn replay_checked(
     let mut at: usize = 0;
     let mut count: usize = 0;
     while count < quota {
-        let reached = steps::consecutive::samples(
+        let progress = steps::consecutive::samples(
             part,
             state,
             trace,
@@ -52,9 +52,9 @@ pub fn replay_checked(
             &mut *memory,
             &mut *answers,
         );
-        let here = reached.model;
-        let done = reached.count;
-        let offset = reached.offset;
+        let here = progress.model;
+        let done = progress.count;
+        let offset = progress.offset;
         if quota <= done || trace.len() <= offset {
             return ended(0, here, done, offset);
         }

@@ -27,7 +27,7 @@ use Rattle.i2c.specs.Sample as I2cSample
 use Rattle.chip.specs.declared.model.BusState.{BusState}
 use Rattle.chip.specs.declared.model.BusState.the-variants.{Unpowered, SpiOn, I2cOn}
 use Rattle.chip.specs.declared.model.Model.{Model}
-use Rattle.events.specs.Apart.{Apart}
+use Rattle.events.specs.OtherEvent.{OtherThanSample}
 use Rattle.events.specs.Event.{advanceOf}
 use Rattle.chip.specs.Check.{Sound}
 use Rattle.chip.proofs.CheckLaws.{sound-in}
@@ -83,15 +83,15 @@ module _ (s : Model) (m : List ℕ) (sound : Sound s m) where
       powered e = let o : _≡_ {A = Bool} false true = rw e at n in let k : _≡_ {A = ℕ} 0 1 = cc in omega arith
 
   -- any other event is no sample under power
-  apart-by : (b : BusState) → s .bus ≡ b → (t : List ℕ) (e : Event) (n : ℕ) → staysOn b t ≡ false → readOf (partOf (s .part)) t ≡ Whole e n → Apart b e
-  apart-by Unpowered k t e n z r = tt
-  apart-by (SpiOn x) k t e n z r =
+  other-by : (b : BusState) → s .bus ≡ b → (t : List ℕ) (e : Event) (n : ℕ) → staysOn b t ≡ false → readOf (partOf (s .part)) t ≡ Whole e n → OtherThanSample b e
+  other-by Unpowered k t e n z r = tt
+  other-by (SpiOn x) k t e n z r =
       no-sample (partOf (s .part)) t e n (stays-none _ (present (SpiOn x)) t (sym (first-next (SpiOn x) k t (λ u. let k : _≡_ {A = ℕ} 0 1 = cc in omega arith)) ∙ z)) r
-  apart-by (I2cOn x) k t e n z r =
+  other-by (I2cOn x) k t e n z r =
       no-sample (partOf (s .part)) t e n (stays-none _ (present (I2cOn x)) t (sym (first-next (I2cOn x) k t (λ u. let k : _≡_ {A = ℕ} 0 1 = cc in omega arith)) ∙ z)) r
 
-  pub next-apart : (t : List ℕ) (e : Event) (n : ℕ) → staysOn (s .bus) t ≡ false → readOf (partOf (s .part)) t ≡ Whole e n → Apart (s .bus) e
-  next-apart t e n z r = apart-by (s .bus) refl t e n z r
+  pub next-other : (t : List ℕ) (e : Event) (n : ℕ) → staysOn (s .bus) t ≡ false → readOf (partOf (s .part)) t ≡ Whole e n → OtherThanSample (s .bus) e
+  next-other t e n z r = other-by (s .bus) refl t e n z r
 
   -- such an event is accepted
   accepted-by : (b : BusState) → s .bus ≡ b → (t : List ℕ) → staysOn b t ≡ true → firstDone s m t .result .number ≡ 0

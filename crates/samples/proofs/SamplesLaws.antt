@@ -21,8 +21,8 @@ use Rattle.chip.specs.declared.model.Model.{Model}
 use Rattle.events.specs.Event.{Outcome}
 use Rattle.chip.specs.Check.{Sound}
 use Rattle.events.proofs.Keeps.{keeps}
-use Rattle.samples.specs.declared.reached.Reached.{Reached}
-use Rattle.samples.specs.Samples.{Samples, none, one, staysOn, firstDone, samplesOf, reached, reachedBy, nextIs, firstSample}
+use Rattle.samples.specs.declared.progress.Progress.{Progress}
+use Rattle.samples.specs.Samples.{Samples, none, one, staysOn, firstDone, samplesOf, progress, progressBy, nextIs, firstSample}
 
 -- the part of t from o on, as a slice of it has it
 pub tail-part : (t : List ℕ) (o : ℕ) → take (length t - o) (drop o t) ≡ drop o t
@@ -47,20 +47,20 @@ module _ (t : List ℕ) (s : Model) (m : List ℕ) where
 
 -- all that they give back
 pub record End : Type 0 where
-  pub reached : Reached
+  pub progress : Progress
   pub memory : List ℕ
   pub answers : List ℕ
 
-abbrev pub endOf : Reached → List ℕ → List ℕ → End
-endOf r m buf = record { reached = r; memory = m; answers = buf }
+abbrev pub endOf : Progress → List ℕ → List ℕ → End
+endOf r m buf = record { progress = r; memory = m; answers = buf }
 
 -- what r gives after c events and o bytes, with the answers so far in buf
 abbrev pub end : ℕ → ℕ → List ℕ → Samples → End
-end c o buf r = endOf (reachedBy c o r) (r .memory) (sets buf c (r .answers))
+end c o buf r = endOf (progressBy c o r) (r .memory) (sets buf c (r .answers))
 
 -- the parts of two equal ends
-pub three : (a b : End) → a ≡ b → (a .reached ≡ b .reached) × (a .memory ≡ b .memory) × (a .answers ≡ b .answers)
-three a b e = (ap (λ (f : End). f .reached) e, ap (λ (f : End). f .memory) e, ap (λ (f : End). f .answers) e)
+pub three : (a b : End) → a ≡ b → (a .progress ≡ b .progress) × (a .memory ≡ b .memory) × (a .answers ≡ b .answers)
+three a b e = (ap (λ (f : End). f .progress) e, ap (λ (f : End). f .memory) e, ap (λ (f : End). f .answers) e)
 
 -- ---- the two tests before one of them
 
@@ -117,14 +117,14 @@ module _ (t : List ℕ) (limit a q c o : ℕ) (s : Model) (m buf : List ℕ) (bu
   abbrev pub left : Samples
   left = samplesOf (q - c) (drop o t) s m
 
-  stopped : left ≡ none s m → end c o buf left ≡ endOf (reached s c o) m buf
+  stopped : left ≡ none s m → end c o buf left ≡ endOf (progress s c o) m buf
   stopped e = rw (e, add-zero c, add-zero o)
 
   -- no quota, or another event next
-  pub left-none : nextIs limit a q c (drop o t) ≡ false → end c o buf left ≡ endOf (reached s c o) m buf
+  pub left-none : nextIs limit a q c (drop o t) ≡ false → end c o buf left ≡ endOf (progress s c o) m buf
   left-none h = by (ltb c q) refl h
     where
-      by : (y : Bool) → ltb c q ≡ y → cond y (staysFirst limit a (drop o t)) false ≡ false → end c o buf left ≡ endOf (reached s c o) m buf
+      by : (y : Bool) → ltb c q ≡ y → cond y (staysFirst limit a (drop o t)) false ≡ false → end c o buf left ≡ endOf (progress s c o) m buf
       by true e n = stopped (samples-none (drop o t) s m (q - c) (bus (drop o t) ∙ n))
       by false e n = let l = ltb-false c q e in let z : q - c ≡ 0 = omega arith in stopped (rw z (samples-zero (drop o t) s m))
 
@@ -147,7 +147,7 @@ pub record Going (t : List ℕ) (q : ℕ) (goal : End) (s : Model) (c o : ℕ) (
 
 module _ {t : List ℕ} {q : ℕ} {goal : End} {s : Model} {c o : ℕ} {m buf : List ℕ} (g : Going t q goal s c o m buf)
     (limit a : ℕ) (bus : (u : List ℕ) → staysOn (s .bus) u ≡ staysFirst limit a u) where
-  pub stops : nextIs limit a q c (drop o t) ≡ false → endOf (reached s c o) m buf ≡ goal
+  pub stops : nextIs limit a q c (drop o t) ≡ false → endOf (progress s c o) m buf ≡ goal
   stops h = sym (left-none t limit a q c o s m buf bus h) ∙ g .left
 
   -- one event more, and what it gives
@@ -162,5 +162,5 @@ module _ {t : List ℕ} {q : ℕ} {goal : End} {s : Model} {c o : ℕ} {m buf : 
 
 -- without power there is none
 pub none-unpowered : (t : List ℕ) (q c o : ℕ) (s : Model) (m buf : List ℕ) → s .bus ≡ Unpowered
-    → end c o buf (samplesOf (q - c) (drop o t) s m) ≡ endOf (reached s c o) m buf
+    → end c o buf (samplesOf (q - c) (drop o t) s m) ≡ endOf (progress s c o) m buf
 none-unpowered t q c o s m buf h = rw (samples-none (drop o t) s m (q - c) (rw h), add-zero c, add-zero o)

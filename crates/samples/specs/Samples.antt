@@ -23,7 +23,7 @@ use Rattle.chip.specs.declared.model.BusState.{BusState}
 use Rattle.chip.specs.declared.model.BusState.the-variants.{Unpowered, SpiOn, I2cOn}
 use Rattle.chip.specs.declared.model.Model.{Model}
 use Rattle.events.specs.Event.{Outcome, advanceOf}
-use Rattle.samples.specs.declared.reached.Reached.{Reached}
+use Rattle.samples.specs.declared.progress.Progress.{Progress}
 
 -- state, count of events, bytes taken, memory and answers
 pub record Samples : Type 0 where
@@ -60,12 +60,12 @@ samplesOf (suc quota) t s m =
 
 -- ---- how far a run has come with them
 
-abbrev pub reached : Model → ℕ → ℕ → Reached
-reached s c o = record { model = s; count = c; offset = o }
+abbrev pub progress : Model → ℕ → ℕ → Progress
+progress s c o = record { model = s; count = c; offset = o }
 
 -- after c events and o bytes before them
-abbrev pub reachedBy : ℕ → ℕ → Samples → Reached
-reachedBy c o r = reached (r .model) (c + r .count) (o + r .offset)
+abbrev pub progressBy : ℕ → ℕ → Samples → Progress
+progressBy c o r = progress (r .model) (c + r .count) (o + r .offset)
 
 -- whether one more event is allowed and t begins with a sample below the limit, or with this expected answer
 abbrev pub nextIs : ℕ → ℕ → ℕ → ℕ → List ℕ → Bool

@@ -15,7 +15,7 @@ use Rattle.selection.specs.declared.phase.Field.the-variants.{Opcode, Re
 use Rattle.selection.specs.declared.phase.Source.{Source}
 use Rattle.selection.specs.declared.phase.Source.the-variants.{Memory, Register, Identity}
 use Rattle.selection.specs.declared.phase.Phase.{Phase}
-use Rattle.selection.specs.declared.phase.Phase.the-variants.{Rest, Deaf, Taking, Showing, Waiting}
+use Rattle.selection.specs.declared.phase.Phase.the-variants.{Rest, Ignoring, Taking, Showing, Waiting}
 use Rattle.selection.specs.Phase.{width}
 use Rattle.selection.specs.Ranges.{FieldIn, SourceIn, TakingIn, PhaseIn, fieldIn, sourceIn, phaseIn}
 
@@ -37,7 +37,7 @@ source-in p (Identity i) h = leb-true i 3 h
 
 pub phase-in : (p : Part) (ph : Phase) → phaseIn p ph ≡ true → PhaseIn p ph
 phase-in p Rest h = tt
-phase-in p Deaf h = tt
+phase-in p Ignoring h = tt
 phase-in p (Taking f n v) h =
     let a = and-both (fieldIn p f) _ h in
     let b = and-both (ltb n (width p f)) (ltb v (2 ^ n)) (a .1) in
@@ -63,7 +63,7 @@ source-test p (Identity i) h = le-leb i 3 h
 
 pub phase-test : (p : Part) (ph : Phase) → PhaseIn p ph → phaseIn p ph ≡ true
 phase-test p Rest h = refl
-phase-test p Deaf h = refl
+phase-test p Ignoring h = refl
 phase-test p (Taking f n v) h = simp (field-test p f (h .field), lt-ltb n (width p f) (h .short), lt-ltb v (2 ^ n) (h .bits))
 phase-test p (Showing s k) h = simp (source-test p s (h .source), lt-ltb k 8 (h .bit))
 phase-test p (Waiting a) h = refl

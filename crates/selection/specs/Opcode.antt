@@ -1,4 +1,4 @@
--- The opcodes. A code that the part lacks makes it deaf.
+-- The opcodes. After a code that it lacks the part ignores the bus until CS# rises.
 use Prim.Native.Nat.{ℕ}
 use mathlib.Core.Bool.{cond}
 use lib.Dec.{eqb}

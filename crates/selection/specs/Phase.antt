@@ -13,7 +13,7 @@ use Rattle.selection.specs.declared.phase.Source.{Source}
 use Rattle.selection.specs.declared.phase.Source.the-variants.{Memory, Register, Identity}
 use Rattle.selection.specs.declared.phase.Action.the-variants.{SetLatch, ClearLatch, FallAsleep, WriteStatus}
 use Rattle.selection.specs.declared.phase.Phase.{Phase}
-use Rattle.selection.specs.declared.phase.Phase.the-variants.{Rest, Deaf, Taking, Showing, Waiting}
+use Rattle.selection.specs.declared.phase.Phase.the-variants.{Rest, Ignoring, Taking, Showing, Waiting}
 use Rattle.selection.specs.Opcode.{commandOf}
 
 -- how many bits a field has: opcode, dummy and data eight each, an address as many as the part's table says
@@ -27,28 +27,28 @@ width p (Data a w) = 8
 width p StatusByte = 8
 
 -- the phase after a whole opcode. Output starts after h rises: h = 8 for RDSR and RDID
-abbrev pub begun : Command → Phase
-begun WREN = Waiting SetLatch
-begun WRDI = Waiting ClearLatch
-begun RDSR = Showing Register 0
-begun WRSR = Taking StatusByte 0 0
-begun READ = Taking ReadAddress 0 0
-begun WRITE = Taking WriteAddress 0 0
-begun FSTRD = Taking FastAddress 0 0
-begun RDID = Showing (Identity 0) 0
-begun SLEEP = Waiting FallAsleep
-begun Unknown = Deaf
+abbrev pub phaseAfterOpcode : Command → Phase
+phaseAfterOpcode WREN = Waiting SetLatch
+phaseAfterOpcode WRDI = Waiting ClearLatch
+phaseAfterOpcode RDSR = Showing Register 0
+phaseAfterOpcode WRSR = Taking StatusByte 0 0
+phaseAfterOpcode READ = Taking ReadAddress 0 0
+phaseAfterOpcode WRITE = Taking WriteAddress 0 0
+phaseAfterOpcode FSTRD = Taking FastAddress 0 0
+phaseAfterOpcode RDID = Showing (Identity 0) 0
+phaseAfterOpcode SLEEP = Waiting FallAsleep
+phaseAfterOpcode Unknown = Ignoring
 
 -- the phase after the last bit of a field, whose bits make v. Output starts after 8 + address bits for READ, and after the
 -- dummy byte for FSTRD (40). An address counts modulo the size; WRITE's goes up by one after each data byte, stored or not
-abbrev pub filled : Part → Field → ℕ → Phase
-filled p Opcode v = begun (commandOf p v)
-filled p ReadAddress v = Showing (Memory (v % p .size)) 0
-filled p FastAddress v = Taking (Dummy (v % p .size)) 0 0
-filled p WriteAddress v = Taking (Data (v % p .size) false) 0 0
-filled p (Dummy a) v = Showing (Memory a) 0
-filled p (Data a w) v = Taking (Data (nextAddress (p .size) a) true) 0 0
-filled p StatusByte v = Waiting (WriteStatus v)
+abbrev pub phaseAfterField : Part → Field → ℕ → Phase
+phaseAfterField p Opcode v = phaseAfterOpcode (commandOf p v)
+phaseAfterField p ReadAddress v = Showing (Memory (v % p .size)) 0
+phaseAfterField p FastAddress v = Taking (Dummy (v % p .size)) 0 0
+phaseAfterField p WriteAddress v = Taking (Data (v % p .size) false) 0 0
+phaseAfterField p (Dummy a) v = Showing (Memory a) 0
+phaseAfterField p (Data a w) v = Taking (Data (nextAddress (p .size) a) true) 0 0
+phaseAfterField p StatusByte v = Waiting (WriteStatus v)
 
 -- what is shown after the last bit of a byte: READ and FSTRD go up from the address and roll over, RDSR repeats the status,
 -- RDID has three bytes
@@ -59,7 +59,7 @@ nextSource p (Identity i) = cond (ltb i 3) (Identity (i + 1)) (Identity i)
 
 -- one bit more of a field
 abbrev pub afterTaken : Part → Field → ℕ → ℕ → Bool → Phase
-afterTaken p f n v b = cond (ltb (n + 1) (width p f)) (Taking f (n + 1) (shifted v b)) (filled p f (shifted v b))
+afterTaken p f n v b = cond (ltb (n + 1) (width p f)) (Taking f (n + 1) (shifted v b)) (phaseAfterField p f (shifted v b))
 
 -- one bit further in what is shown
 abbrev pub afterShown : Part → Source → ℕ → Phase
@@ -68,7 +68,7 @@ afterShown p s k = cond (ltb k 7) (Showing s (k + 1)) (Showing (nextSource p s) 
 -- the phase after a counted rise with the bit b. Bits after WREN, WRDI, SLEEP and WRSR's first data byte are ignored
 abbrev pub afterRise : Part → Phase → Bool → Phase
 afterRise p Rest b = Rest
-afterRise p Deaf b = Deaf
+afterRise p Ignoring b = Ignoring
 afterRise p (Taking f n v) b = afterTaken p f n v b
 afterRise p (Showing s k) b = afterShown p s k
 afterRise p (Waiting a) b = Waiting a

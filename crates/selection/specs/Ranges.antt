@@ -8,7 +8,7 @@ use Rattle.selection.specs.declared.phase.Field.the-variants.{Opcode, Re
 use Rattle.selection.specs.declared.phase.Source.{Source}
 use Rattle.selection.specs.declared.phase.Source.the-variants.{Memory, Register, Identity}
 use Rattle.selection.specs.declared.phase.Phase.{Phase}
-use Rattle.selection.specs.declared.phase.Phase.the-variants.{Rest, Deaf, Taking, Showing, Waiting}
+use Rattle.selection.specs.declared.phase.Phase.the-variants.{Rest, Ignoring, Taking, Showing, Waiting}
 use Rattle.selection.specs.Phase.{width}
 
 -- an address lies within the part
@@ -39,7 +39,7 @@ pub record ShowingIn (p : Part) (s : Source) (k : ℕ) : Type 0 where
 
 abbrev pub PhaseIn : Part → Phase → Type 0
 PhaseIn p Rest = Unit {0}
-PhaseIn p Deaf = Unit {0}
+PhaseIn p Ignoring = Unit {0}
 PhaseIn p (Taking f n v) = TakingIn p f n v
 PhaseIn p (Showing s k) = ShowingIn p s k
 PhaseIn p (Waiting a) = Unit {0}
@@ -60,7 +60,7 @@ sourceIn p (Identity i) = leb i 3
 
 abbrev pub phaseIn : Part → Phase → Bool
 phaseIn p Rest = true
-phaseIn p Deaf = true
+phaseIn p Ignoring = true
 phaseIn p (Taking f n v) = fieldIn p f && (ltb n (width p f) && ltb v (2 ^ n))
 phaseIn p (Showing s k) = sourceIn p s && ltb k 8
 phaseIn p (Waiting a) = true

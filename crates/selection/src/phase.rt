@@ -36,8 +36,8 @@ pub enum Action {
 pub enum Phase {
     // no selection
     Rest,
-    // no answer and no effect until CS# rises
-    Deaf,
+    // ignores the bus until the next selection: no answer and no effect until CS# rises (document 01: deaf)
+    Ignoring,
     // count bits of a field are in, and make value
     Taking { field: Field, count: u8, value: u32 },
     // the next counted fall shows bit 7 - bit

@@ -2,7 +2,7 @@
 ghost use mathlib.Core.Path.{_≡_};
 ghost use Prim.Native.Nat.{_<_, _^_};
 ghost use Rattle.parts.specs.Table.{Fit};
-ghost use Rattle.selection.specs.Phase.{width, begun, filled, nextSource, afterTaken, afterShown, afterRise};
+ghost use Rattle.selection.specs.Phase.{width, phaseAfterOpcode, phaseAfterField, nextSource, afterTaken, afterShown, afterRise};
 ghost use Rattle.selection.specs.Ranges.{FieldIn, SourceIn, TakingIn, ShowingIn, PhaseIn};
 use crate::opcode::Command;
 use crate::phase::Action;
@@ -36,8 +36,8 @@ fn waiting(action: Action) -> Phase
 }
 
 // The phase after a whole opcode.
-fn begin(command: Command) -> Phase
-    ensures { λ r. ⌜ r ≡ begun command ⌝ }
+fn phase_after_opcode(command: Command) -> Phase
+    ensures { λ r. ⌜ r ≡ phaseAfterOpcode command ⌝ }
 {
     match command {
         Command::WREN => waiting(Action::SetLatch),
@@ -49,17 +49,17 @@ fn begin(command: Command) -> Phase
         Command::FSTRD => taking(Field::FastAddress),
         Command::RDID => showing(Source::Identity { index: 0 }),
         Command::SLEEP => waiting(Action::FallAsleep),
-        Command::Unknown => Phase::Deaf,
+        Command::Unknown => Phase::Ignoring,
     }
 }
 
 // The phase after the last bit of a field.
-fn fill(part: Part, field: Field, value: u32) -> Phase
+fn phase_after_field(part: Part, field: Field, value: u32) -> Phase
     requires { ⌜ Fit part × FieldIn part field × (value < 2 ^ width part field) ⌝ }
-    ensures { λ r. ⌜ r ≡ filled part field value ⌝ }
+    ensures { λ r. ⌜ r ≡ phaseAfterField part field value ⌝ }
 {
     match field {
-        Field::Opcode => begin(crate::opcode::command_of(part, value)),
+        Field::Opcode => phase_after_opcode(crate::opcode::command_of(part, value)),
         Field::ReadAddress => showing(Source::Memory {
             address: value % part.size,
         }),
@@ -112,7 +112,7 @@ fn take_bit(part: Part, field: Field, count: u8, value: u32, si: bool) -> Phase
             value,
         }
     } else {
-        fill(part, field, value)
+        phase_after_field(part, field, value)
     }
 }
 
@@ -138,7 +138,7 @@ pub fn after_rise(part: Part, phase: Phase, si: bool) -> Phase
 {
     match phase {
         Phase::Rest => phase,
-        Phase::Deaf => phase,
+        Phase::Ignoring => phase,
         Phase::Taking {
             field,
             count,

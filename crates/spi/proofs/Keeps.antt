@@ -29,11 +29,11 @@ use Rattle.selection.specs.declared.phase.Field.the-variants.{Opcode, ReadAddre
 use Rattle.selection.specs.declared.phase.Source.{Source}
 use Rattle.selection.specs.declared.phase.Source.the-variants.{Memory, Register, Identity}
 use Rattle.selection.specs.declared.phase.Phase.{Phase}
-use Rattle.selection.specs.declared.phase.Phase.the-variants.{Rest, Deaf, Taking, Showing, Waiting}
+use Rattle.selection.specs.declared.phase.Phase.the-variants.{Rest, Ignoring, Taking, Showing, Waiting}
 use Rattle.spi.specs.declared.sample.Spi.{Spi}
 use Rattle.selection.specs.Edge.{edgeOf}
 use Rattle.selection.specs.Opcode.{commandOf}
-use Rattle.selection.specs.Phase.{width, begun, filled, nextSource, afterTaken, afterShown, afterRise}
+use Rattle.selection.specs.Phase.{width, phaseAfterOpcode, phaseAfterField, nextSource, afterTaken, afterShown, afterRise}
 use Rattle.spi.specs.Store.{fieldWrite, dataWrite, permitted, riseWrite}
 use Rattle.selection.specs.Ranges.{FieldIn, SourceIn, TakingIn, ShowingIn, PhaseIn}
 use Rattle.spi.specs.Sample.{selected, stepOn, stepOf, Ready}
@@ -57,33 +57,33 @@ module _ (p : Part) (fit : Fit p) where
 
   -- ---- a counted rise
 
-  begun-in : (k : Command) → PhaseIn p (begun k)
-  begun-in WREN = tt
-  begun-in WRDI = tt
-  begun-in RDSR = showing-in Register tt
-  begun-in WRSR = taking-in StatusByte tt
-  begun-in READ = taking-in ReadAddress tt
-  begun-in WRITE = taking-in WriteAddress tt
-  begun-in FSTRD = taking-in FastAddress tt
-  begun-in RDID = showing-in (Identity 0) (omega arith)
-  begun-in SLEEP = tt
-  begun-in Unknown = tt
+  after-opcode-in : (k : Command) → PhaseIn p (phaseAfterOpcode k)
+  after-opcode-in WREN = tt
+  after-opcode-in WRDI = tt
+  after-opcode-in RDSR = showing-in Register tt
+  after-opcode-in WRSR = taking-in StatusByte tt
+  after-opcode-in READ = taking-in ReadAddress tt
+  after-opcode-in WRITE = taking-in WriteAddress tt
+  after-opcode-in FSTRD = taking-in FastAddress tt
+  after-opcode-in RDID = showing-in (Identity 0) (omega arith)
+  after-opcode-in SLEEP = tt
+  after-opcode-in Unknown = tt
 
-  filled-in : (f : Field) (v : ℕ) → FieldIn p f → PhaseIn p (filled p f v)
-  filled-in Opcode v h = begun-in (commandOf p v)
-  filled-in ReadAddress v h = showing-in (Memory _) (mod-lt v (fit .positive))
-  filled-in FastAddress v h = taking-in (Dummy _) (mod-lt v (fit .positive))
-  filled-in WriteAddress v h = taking-in (Data _ false) (mod-lt v (fit .positive))
-  filled-in (Dummy a) v h = showing-in (Memory a) h
-  filled-in (Data a w) v h = taking-in (Data _ true) (next-within (p .size) a (fit .positive))
-  filled-in StatusByte v h = tt
+  after-field-in : (f : Field) (v : ℕ) → FieldIn p f → PhaseIn p (phaseAfterField p f v)
+  after-field-in Opcode v h = after-opcode-in (commandOf p v)
+  after-field-in ReadAddress v h = showing-in (Memory _) (mod-lt v (fit .positive))
+  after-field-in FastAddress v h = taking-in (Dummy _) (mod-lt v (fit .positive))
+  after-field-in WriteAddress v h = taking-in (Data _ false) (mod-lt v (fit .positive))
+  after-field-in (Dummy a) v h = showing-in (Memory a) h
+  after-field-in (Data a w) v h = taking-in (Data _ true) (next-within (p .size) a (fit .positive))
+  after-field-in StatusByte v h = tt
 
   taken-in : (f : Field) (n v : ℕ) (b : Bool) → TakingIn p f n v → PhaseIn p (afterTaken p f n v b)
   taken-in f n v b h = by (ltb (n + 1) (width p f)) refl
     where
-      by : (t : Bool) → ltb (n + 1) (width p f) ≡ t → PhaseIn p (cond t (Taking f (n + 1) (shifted v b)) (filled p f (shifted v b)))
+      by : (t : Bool) → ltb (n + 1) (width p f) ≡ t → PhaseIn p (cond t (Taking f (n + 1) (shifted v b)) (phaseAfterField p f (shifted v b)))
       by true e = record { field = h .field; short = ltb-true (n + 1) (width p f) e; bits = shifted-within n v b (h .bits) }
-      by false e = filled-in f (shifted v b) (h .field)
+      by false e = after-field-in f (shifted v b) (h .field)
 
   next-source-in : (s : Source) → SourceIn p s → SourceIn p (nextSource p s)
   next-source-in (Memory a) h = next-within (p .size) a (fit .positive)
@@ -103,7 +103,7 @@ module _ (p : Part) (fit : Fit p) where
 
   rise-in : (ph : Phase) (b : Bool) → PhaseIn p ph → PhaseIn p (afterRise p ph b)
   rise-in Rest b h = tt
-  rise-in Deaf b h = tt
+  rise-in Ignoring b h = tt
   rise-in (Taking f n v) b h = taken-in f n v b h
   rise-in (Showing s k) b h = shown-in s k h
   rise-in (Waiting a) b h = tt
@@ -139,7 +139,7 @@ module _ (p : Part) (fit : Fit p) where
 
   pub rise-within : (st : Status) (ph : Phase) (b : Bool) → PhaseIn p ph → Within (p .size) (riseWrite p st ph b)
   rise-within st Rest b h = tt
-  rise-within st Deaf b h = tt
+  rise-within st Ignoring b h = tt
   rise-within st (Taking f n v) b h = field-within st f n v b (h .field)
   rise-within st (Showing s k) b h = tt
   rise-within st (Waiting a) b h = tt

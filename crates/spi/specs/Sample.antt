@@ -16,7 +16,7 @@ use Rattle.selection.specs.declared.edge.Edge.{Edge}
 use Rattle.selection.specs.declared.edge.Edge.the-variants.{Select, Deselect, Rise, Fall, Quiet}
 use Rattle.selection.specs.declared.phase.Field.the-variants.{Opcode}
 use Rattle.selection.specs.declared.phase.Phase.{Phase}
-use Rattle.selection.specs.declared.phase.Phase.the-variants.{Rest, Deaf, Taking}
+use Rattle.selection.specs.declared.phase.Phase.the-variants.{Rest, Ignoring, Taking}
 use Rattle.spi.specs.declared.sample.Spi.{Spi}
 use Rattle.selection.specs.Edge.{edgeOf}
 use Rattle.selection.specs.Phase.{afterRise}
@@ -25,9 +25,9 @@ use Rattle.spi.specs.Show.{afterFall, answerAt}
 use Rattle.spi_status.specs.Deselect.{statusAfter, asleepAfter}
 use Rattle.selection.specs.Ranges.{PhaseIn}
 
--- the phase after CS# falls: the selection after SLEEP is deaf
+-- the phase after CS# falls: the selection after SLEEP is ignored
 abbrev pub selected : Bool → Phase
-selected true = Deaf
+selected true = Ignoring
 selected false = Taking Opcode 0 0
 
 -- what one sample gives

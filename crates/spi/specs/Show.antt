@@ -16,7 +16,7 @@ use Rattle.selection.specs.declared.levels.Levels.{Levels}
 use Rattle.selection.specs.declared.phase.Source.{Source}
 use Rattle.selection.specs.declared.phase.Source.the-variants.{Memory, Register, Identity}
 use Rattle.selection.specs.declared.phase.Phase.{Phase}
-use Rattle.selection.specs.declared.phase.Phase.the-variants.{Rest, Deaf, Taking, Showing, Waiting}
+use Rattle.selection.specs.declared.phase.Phase.the-variants.{Rest, Ignoring, Taking, Showing, Waiting}
 
 -- bit 7 - k of what a source shows; RDID shows three bytes, then nothing (house)
 abbrev pub shownBit : Part → Status → List ℕ → Source → ℕ → Answer
@@ -27,7 +27,7 @@ shownBit p st m (Identity i) k = cond (ltb i 3) (levelOf (bitAt (getD (p .identi
 -- what is shown after a counted fall, where old was before
 abbrev pub afterFall : Part → Status → List ℕ → Phase → Answer → Answer
 afterFall p st m Rest old = old
-afterFall p st m Deaf old = old
+afterFall p st m Ignoring old = old
 afterFall p st m (Taking f n v) old = old
 afterFall p st m (Showing s k) old = shownBit p st m s k
 afterFall p st m (Waiting a) old = old

@@ -11,7 +11,7 @@ use Rattle.serial.specs.Bits.{shifted}
 use Rattle.selection.specs.declared.phase.Field.{Field}
 use Rattle.selection.specs.declared.phase.Field.the-variants.{Opcode, ReadAddress, FastAddress, WriteAddress, Dummy, Data, StatusByte}
 use Rattle.selection.specs.declared.phase.Phase.{Phase}
-use Rattle.selection.specs.declared.phase.Phase.the-variants.{Rest, Deaf, Taking, Showing, Waiting}
+use Rattle.selection.specs.declared.phase.Phase.the-variants.{Rest, Ignoring, Taking, Showing, Waiting}
 
 -- a whole data byte v for the address a
 abbrev pub permitted : Part → Status → ℕ → ℕ → Write
@@ -33,7 +33,7 @@ fieldWrite p st StatusByte n v b = Nothing
 -- what a counted rise with the bit b writes
 abbrev pub riseWrite : Part → Status → Phase → Bool → Write
 riseWrite p st Rest b = Nothing
-riseWrite p st Deaf b = Nothing
+riseWrite p st Ignoring b = Nothing
 riseWrite p st (Taking f n v) b = fieldWrite p st f n v b
 riseWrite p st (Showing s k) b = Nothing
 riseWrite p st (Waiting a) b = Nothing

@@ -21,7 +21,7 @@ pub fn select(asleep: bool) -> Phase
     ensures { λ r. ⌜ r ≡ selected asleep ⌝ }
 {
     if asleep {
-        Phase::Deaf
+        Phase::Ignoring
     } else {
         selection::rise::taking(Field::Opcode)
     }

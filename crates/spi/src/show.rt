@@ -46,7 +46,7 @@ pub fn after_fall(part: Part, status: Status, memory: &[u8], phase: Phase, shown
 {
     match phase {
         Phase::Rest => shown,
-        Phase::Deaf => shown,
+        Phase::Ignoring => shown,
         Phase::Taking {
             field: _,
             count: _,

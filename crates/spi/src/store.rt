@@ -63,7 +63,7 @@ pub fn rise_write(part: Part, status: Status, phase: Phase, si: bool) -> Write
 {
     match phase {
         Phase::Rest => Write::Nothing,
-        Phase::Deaf => Write::Nothing,
+        Phase::Ignoring => Write::Nothing,
         Phase::Taking {
             field,
             count,

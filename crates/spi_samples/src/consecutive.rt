@@ -6,11 +6,11 @@ ghost use lib.Seq.{sets};
 ghost use Rattle.parts.specs.Table.{partOf};
 ghost use Rattle.chip.specs.Check.{Sound};
 ghost use Rattle.chip.specs.declared.model.BusState.the-variants.{SpiOn};
-ghost use Rattle.samples.specs.Samples.{samplesOf, reachedBy};
+ghost use Rattle.samples.specs.Samples.{samplesOf, progressBy};
 use chip::model::Model;
 use parts::answer::Answer;
 use parts::part::Part;
-use samples::reached::Reached;
+use samples::progress::Progress;
 use selection::edge::Edge;
 use selection::phase::Phase;
 use spi::sample::Spi;
@@ -26,9 +26,9 @@ pub fn spi_samples(
     start: usize,
     memory: &mut [u8],
     answers: &mut [u8],
-) -> Reached
+) -> Progress
     requires { ⌜ (part ≡ partOf (model .part)) × (model .bus ≡ SpiOn spi) × Sound model (now memory) × (start ≤ length (now trace)) ⌝ }
-    ensures progress { λ r. ⌜ r ≡ reachedBy first start (samplesOf (quota - first) (drop start (now (trace .entry))) model (now (memory .entry))) ⌝ }
+    ensures progress { λ r. ⌜ r ≡ progressBy first start (samplesOf (quota - first) (drop start (now (trace .entry))) model (now (memory .entry))) ⌝ }
     ensures memory { λ r. ⌜ now (memory .exit) ≡ samplesOf (quota - first) (drop start (now (trace .entry))) model (now (memory .entry)) .memory ⌝ }
     ensures answers { λ r. ⌜ now (answers .exit) ≡ sets (now (answers .entry)) first (samplesOf (quota - first) (drop start (now (trace .entry))) model (now (memory .entry)) .answers) ⌝ }
 {
@@ -40,7 +40,7 @@ pub fn spi_samples(
     let mut count = first;
     let mut offset = start;
     while crate::turn::next_is(trace, quota, count, offset, last, shown) {
-        let sample = samples::reached::first_sample(trace, offset, last);
+        let sample = samples::progress::first_sample(trace, offset, last);
         let levels = selection::levels::levels_of(sample);
         match selection::edge::edge_of(selection::levels::levels_of(last), levels) {
             Edge::Select => {
@@ -66,7 +66,7 @@ pub fn spi_samples(
         count += 1;
         offset += 2;
     }
-    samples::reached::reach(
+    samples::progress::progress_at(
         model,
         status,
         crate::turn::on_bus(last, asleep, shown, phase),

@@ -9,7 +9,7 @@ use Rattle.selection.specs.declared.phase.Field.the-variants.{Opcode, ReadAddre
 use Rattle.selection.specs.declared.phase.Action.{Action}
 use Rattle.selection.specs.declared.phase.Action.the-variants.{SetLatch, ClearLatch, FallAsleep, WriteStatus}
 use Rattle.selection.specs.declared.phase.Phase.{Phase}
-use Rattle.selection.specs.declared.phase.Phase.the-variants.{Rest, Deaf, Taking, Showing, Waiting}
+use Rattle.selection.specs.declared.phase.Phase.the-variants.{Rest, Ignoring, Taking, Showing, Waiting}
 
 -- bits 7, 3 and 2 of a byte, with WEL cleared
 abbrev pub takenStatus : ℕ → Status
@@ -41,7 +41,7 @@ fieldStatus st StatusByte = st
 -- the status register after CS# rises at a sample with WP# at wp
 abbrev pub statusAfter : Status → Bool → Phase → Status
 statusAfter st wp Rest = st
-statusAfter st wp Deaf = st
+statusAfter st wp Ignoring = st
 statusAfter st wp (Taking f n v) = fieldStatus st f
 statusAfter st wp (Showing s k) = st
 statusAfter st wp (Waiting a) = actionStatus st wp a
@@ -54,12 +54,12 @@ isSleep (WriteStatus v) = false
 
 abbrev pub sleeps : Phase → Bool
 sleeps Rest = false
-sleeps Deaf = false
+sleeps Ignoring = false
 sleeps (Taking f n v) = false
 sleeps (Showing s k) = false
 sleeps (Waiting a) = isSleep a
 
--- SLEEP takes effect when CS# rises. The selection after it is deaf and wakes the part at its end (house; the sheet gives a
+-- SLEEP takes effect when CS# rises. The selection after it is ignored and wakes the part at its end (house; the sheet gives a
 -- time)
 abbrev pub asleepAfter : Bool → Phase → Bool
 asleepAfter true ph = false

@@ -75,7 +75,7 @@ pub fn status_after(status: Status, wp: bool, phase: Phase) -> Status
 {
     match phase {
         Phase::Rest => status,
-        Phase::Deaf => status,
+        Phase::Ignoring => status,
         Phase::Taking {
             field,
             count: _,
@@ -103,7 +103,7 @@ fn sleeps(phase: Phase) -> bool
 {
     match phase {
         Phase::Rest => false,
-        Phase::Deaf => false,
+        Phase::Ignoring => false,
         Phase::Taking {
             field: _,
             count: _,

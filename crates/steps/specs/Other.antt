@@ -9,7 +9,7 @@ use Rattle.parts.specs.Numbers.{refusalNumber}
 use Rattle.trace.specs.declared.read.Read.{Read}
 use Rattle.trace.specs.declared.read.Read.the-variants.{Whole, Refused}
 use Rattle.events.specs.declared.event.Answered.{Answered}
-use Rattle.events.specs.Apart.{Apart}
+use Rattle.events.specs.OtherEvent.{OtherThanSample}
 use Rattle.events.specs.Event.{advanceOf}
 use Rattle.chip.specs.declared.model.BusState.{BusState}
 use Rattle.chip.specs.declared.model.Model.{Model}
@@ -42,6 +42,6 @@ otherNoted (Whole e n) s m c buf = notedBy (advanceOf s m e .result) c buf
 otherNoted (Refused r) s m c buf = buf
 
 -- what was read is no sample, if there is power
-abbrev pub ReadApart : Read → BusState → Type 0
-ReadApart (Whole e n) b = Apart b e
-ReadApart (Refused r) b = Unit {0}
+abbrev pub ReadOtherThanSample : Read → BusState → Type 0
+ReadOtherThanSample (Whole e n) b = OtherThanSample b e
+ReadOtherThanSample (Refused r) b = Unit {0}

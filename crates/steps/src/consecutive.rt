@@ -5,11 +5,11 @@ ghost use lib.ListN.{length, drop};
 ghost use lib.Seq.{sets};
 ghost use Rattle.parts.specs.Table.{partOf};
 ghost use Rattle.chip.specs.Check.{Sound};
-ghost use Rattle.samples.specs.Samples.{samplesOf, reachedBy};
+ghost use Rattle.samples.specs.Samples.{samplesOf, progressBy};
 use chip::model::BusState;
 use chip::model::Model;
 use parts::part::Part;
-use samples::reached::Reached;
+use samples::progress::Progress;
 
 // From offset `start` on, within the quota, after `first` accepted events. Without power there are none.
 pub fn samples(
@@ -21,9 +21,9 @@ pub fn samples(
     start: usize,
     memory: &mut [u8],
     answers: &mut [u8],
-) -> Reached
+) -> Progress
     requires { ⌜ (part ≡ partOf (model .part)) × Sound model (now memory) × (start ≤ length (now trace)) ⌝ }
-    ensures progress { λ r. ⌜ r ≡ reachedBy first start (samplesOf (quota - first) (drop start (now (trace .entry))) model (now (memory .entry))) ⌝ }
+    ensures progress { λ r. ⌜ r ≡ progressBy first start (samplesOf (quota - first) (drop start (now (trace .entry))) model (now (memory .entry))) ⌝ }
     ensures memory { λ r. ⌜ now (memory .exit) ≡ samplesOf (quota - first) (drop start (now (trace .entry))) model (now (memory .entry)) .memory ⌝ }
     ensures answers { λ r. ⌜ now (answers .exit) ≡ sets (now (answers .entry)) first (samplesOf (quota - first) (drop start (now (trace .entry))) model (now (memory .entry)) .answers) ⌝ }
 {
@@ -31,7 +31,7 @@ pub fn samples(
     match bus {
         BusState::Unpowered => {
             let status = model.status;
-            samples::reached::reach(model, status, bus, first, start)
+            samples::progress::progress_at(model, status, bus, first, start)
         }
         BusState::SpiOn { spi } => spi_samples::consecutive::spi_samples(
             part,

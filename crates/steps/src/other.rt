@@ -5,7 +5,7 @@ ghost use mathlib.Core.List.{List};
 ghost use lib.ListN.{length, drop};
 ghost use Rattle.parts.specs.Table.{partOf};
 ghost use Rattle.trace.specs.Read.{readOf};
-ghost use Rattle.steps.specs.Other.{other, stoppedBy, otherOf, otherNoted, ReadApart};
+ghost use Rattle.steps.specs.Other.{other, stoppedBy, otherOf, otherNoted, ReadOtherThanSample};
 use chip::model::Model;
 use parts::part::Part;
 use trace::read::Read;
@@ -46,7 +46,7 @@ pub fn one_other(
     offset: usize,
     answers: &mut [u8],
 ) -> Other
-    requires { ⌜ (part ≡ partOf (model .part)) × (offset ≤ length (now trace)) × ReadApart (readOf part (drop offset (now trace))) (model .bus) ⌝ }
+    requires { ⌜ (part ≡ partOf (model .part)) × (offset ≤ length (now trace)) × ReadOtherThanSample (readOf part (drop offset (now trace))) (model .bus) ⌝ }
     ensures other { λ r. ⌜ ((m : List ℕ) → r ≡ otherOf (readOf part (drop offset (now (trace .entry)))) model m offset) ⌝ }
     ensures answers { λ r. ⌜ ((m : List ℕ) → now (answers .exit) ≡ otherNoted (readOf part (drop offset (now (trace .entry)))) model m count (now (answers .entry))) ⌝ }
 {
@@ -55,7 +55,7 @@ pub fn one_other(
         return stopped(read, model, offset);
     };
     let past = offset + taken;
-    let answered = events::event::apart(part, model, event);
+    let answered = events::event::other_event(part, model, event);
     if answered.number != 0 {
         return ended(answered.number, model, offset);
     }

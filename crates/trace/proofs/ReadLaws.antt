@@ -12,15 +12,15 @@ use Rattle.parts.specs.declared.refusal.Refusal.the-variants.{UnknownKind, Trun
 use Rattle.trace.specs.declared.event.Event.{Event}
 use Rattle.trace.specs.declared.read.Read.the-variants.{Whole, Refused}
 use Rattle.trace.specs.Event.{fieldsIn}
-use Rattle.trace.specs.Read.{knownKind, eventLength, eventOf, readOf}
+use Rattle.trace.specs.Read.{knownKind, eventLength, parsedEvent, readOf}
 
 -- the four tests of a reading pass, and what is then read
 pub record Passed (p : Part) (t : List ℕ) (e : Event) (n : ℕ) : Type 0 where
   pub some : length t ≡ 0 → ⊥
   pub known : knownKind (p .bus) (getD t 0 0) ≡ true
   pub long : eventLength (getD t 0 0) ≤ length t
-  pub inside : fieldsIn p (eventOf (getD t 0 0) t) ≡ true
-  pub event : eventOf (getD t 0 0) t ≡ e
+  pub inside : fieldsIn p (parsedEvent (getD t 0 0) t) ≡ true
+  pub event : parsedEvent (getD t 0 0) t ≡ e
   pub taken : eventLength (getD t 0 0) ≡ n
 
 -- where the tests' answers give a whole event, each test passed
@@ -46,7 +46,7 @@ module _ (p : Part) (t : List ℕ) (e : Event) (n : ℕ) where
   pub passed : readOf p t ≡ Whole e n → Passed p t e n
   unfolding readOf
   passed h =
-      let s = chain (eqb (length t) 0) (knownKind (p .bus) (getD t 0 0)) (ltb (length t) (eventLength (getD t 0 0))) (fieldsIn p (eventOf (getD t 0 0) t)) (eventOf (getD t 0 0) t) e (eventLength (getD t 0 0)) n h in
+      let s = chain (eqb (length t) 0) (knownKind (p .bus) (getD t 0 0)) (ltb (length t) (eventLength (getD t 0 0))) (fieldsIn p (parsedEvent (getD t 0 0) t)) (parsedEvent (getD t 0 0) t) e (eventLength (getD t 0 0)) n h in
       record {
         some = eqb-false _ _ (s .0);
         known = s .1 .0;
@@ -70,10 +70,10 @@ module _ (t u : List ℕ) where
   front i h = List·getD-append t u 0 i h
 
   -- an event looks no further than its length
-  pub event-front : (k : ℕ) → eventLength k ≤ length t → eventOf k (t ++ u) ≡ eventOf k t
+  pub event-front : (k : ℕ) → eventLength k ≤ length t → parsedEvent k (t ++ u) ≡ parsedEvent k t
   event-front k h = by (eqb k 2) (eqb k 3) refl refl
     where
-      by : (a b : Bool) → eqb k 2 ≡ a → eqb k 3 ≡ b → eventOf k (t ++ u) ≡ eventOf k t
+      by : (a b : Bool) → eqb k 2 ≡ a → eqb k 3 ≡ b → parsedEvent k (t ++ u) ≡ parsedEvent k t
       by true b x y =
           let l : 5 ≤ length t = rw x at h in
           simp (eqb-true k 2 x, front 1 (omega arith), front 2 (omega arith), front 3 (omega arith), front 4 (omega arith))
@@ -89,7 +89,7 @@ front-only p t u e n h =
     let l : 0 < length t = omega (arith, length-positive (getD t 0 0), s .long) in
     let a : length (t ++ u) ≡ length t + length u = length-append t u in
     let k : getD (t ++ u) 0 0 ≡ getD t 0 0 = front t u 0 l in
-    let g : eventOf (getD (t ++ u) 0 0) (t ++ u) ≡ eventOf (getD t 0 0) t = rw k (event-front t u (getD t 0 0) (s .long)) in
+    let g : parsedEvent (getD (t ++ u) 0 0) (t ++ u) ≡ parsedEvent (getD t 0 0) t = rw k (event-front t u (getD t 0 0) (s .long)) in
     reads-whole p (t ++ u) e n
     (record {
       some = λ z. omega arith;

@@ -29,8 +29,8 @@ abbrev pub startAddress : ℕ → ℕ → ℕ → ℕ
 startAddress high middle low = 65536 * high + 256 * middle + low
 
 -- the event of a known kind from its bytes
-abbrev pub eventOf : ℕ → List ℕ → Event
-eventOf k t =
+abbrev pub parsedEvent : ℕ → List ℕ → Event
+parsedEvent k t =
     cond (eqb k 1) (SpiPowerOn (getD t 1 0))
     (cond (eqb k 2) (I2cPowerOn (getD t 1 0) (startAddress (getD t 2 0) (getD t 3 0) (getD t 4 0)))
     (cond (eqb k 3) PowerOff
@@ -43,6 +43,6 @@ readOf p t =
     cond (eqb (length t) 0) (Refused Truncated)
     (cond (knownKind (p .bus) (getD t 0 0))
     (cond (ltb (length t) (eventLength (getD t 0 0))) (Refused Truncated)
-    (cond (fieldsIn p (eventOf (getD t 0 0) t)) (Whole (eventOf (getD t 0 0) t) (eventLength (getD t 0 0)))
+    (cond (fieldsIn p (parsedEvent (getD t 0 0) t)) (Whole (parsedEvent (getD t 0 0) t) (eventLength (getD t 0 0)))
     (Refused FieldRange)))
     (Refused UnknownKind))

@@ -2,7 +2,7 @@
 ghost use mathlib.Core.Path.{_≡_};
 ghost use Prim.Native.Nat.{_≤_};
 ghost use lib.ListN.{length};
-ghost use Rattle.trace.specs.Read.{knownKind, eventLength, startAddress, eventOf, readOf};
+ghost use Rattle.trace.specs.Read.{knownKind, eventLength, startAddress, parsedEvent, readOf};
 use crate::event::Event;
 use parts::part::Bus;
 use parts::part::Part;
@@ -47,9 +47,9 @@ fn start_address(high: u8, middle: u8, low: u8) -> u32
 }
 
 // The event of a known kind whose bytes are all there.
-fn event_of(kind: u8, bytes: &[u8]) -> Event
+fn parsed_event(kind: u8, bytes: &[u8]) -> Event
     requires { ⌜ eventLength kind ≤ length (now bytes) ⌝ }
-    ensures { λ r. ⌜ r ≡ eventOf kind (now (bytes .entry)) ⌝ }
+    ensures { λ r. ⌜ r ≡ parsedEvent kind (now (bytes .entry)) ⌝ }
 {
     match kind {
         1 => Event::SpiPowerOn { sample: bytes[1] },
@@ -79,7 +79,7 @@ pub fn read_event(part: Part, bytes: &[u8]) -> Read
     if bytes.len() < taken {
         return refused(Refusal::Truncated);
     }
-    let event = event_of(kind, bytes);
+    let event = parsed_event(kind, bytes);
     if !crate::event::fields_in(part, event) {
         return refused(Refusal::FieldRange);
     }

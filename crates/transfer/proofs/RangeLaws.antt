@@ -9,7 +9,7 @@ use Rattle.parts.proofs.Rows.{and-both}
 use Rattle.transfer.specs.declared.phase.Field.{Field}
 use Rattle.transfer.specs.declared.phase.Field.the-variants.{Word, HighByte, LowByte, Data}
 use Rattle.transfer.specs.declared.phase.Phase.{Phase}
-use Rattle.transfer.specs.declared.phase.Phase.the-variants.{Rest, Deaf, Taking, Sending}
+use Rattle.transfer.specs.declared.phase.Phase.the-variants.{Rest, Ignoring, Taking, Sending}
 use Rattle.transfer.specs.Ranges.{FieldIn, PhaseIn, fieldIn, phaseIn}
 
 field-in : (p : Part) (f : Field) → fieldIn p f ≡ true → FieldIn p f
@@ -26,7 +26,7 @@ field-test p (Data a) h = lt-ltb a (p .size) h
 
 pub phase-in : (p : Part) (ph : Phase) → phaseIn p ph ≡ true → PhaseIn p ph
 phase-in p Rest h = tt
-phase-in p Deaf h = tt
+phase-in p Ignoring h = tt
 phase-in p (Taking f n v) h =
     let a = and-both (fieldIn p f) (leb n 8 && ltb v (2 ^ n)) h in
     let b = and-both (leb n 8) (ltb v (2 ^ n)) (a .1) in
@@ -37,6 +37,6 @@ phase-in p (Sending a n) h =
 
 pub phase-test : (p : Part) (ph : Phase) → PhaseIn p ph → phaseIn p ph ≡ true
 phase-test p Rest h = refl
-phase-test p Deaf h = refl
+phase-test p Ignoring h = refl
 phase-test p (Taking f n v) (g, l, b) = simp (field-test p f g, le-leb n 8 l, lt-ltb v (2 ^ n) b)
 phase-test p (Sending a n) (b, l) = simp (lt-ltb a (p .size) b, le-leb n 8 l)

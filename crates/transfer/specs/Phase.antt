@@ -11,35 +11,35 @@ use Rattle.transfer.specs.declared.word.DeviceWord.the-variants.{ReadWor
 use Rattle.transfer.specs.declared.phase.Field.{Field}
 use Rattle.transfer.specs.declared.phase.Field.the-variants.{Word, HighByte, LowByte, Data}
 use Rattle.transfer.specs.declared.phase.Phase.{Phase}
-use Rattle.transfer.specs.declared.phase.Phase.the-variants.{Rest, Deaf, Taking, Sending}
+use Rattle.transfer.specs.declared.phase.Phase.the-variants.{Rest, Ignoring, Taking, Sending}
 use Rattle.transfer.specs.Word.{wordOf}
-use Rattle.transfer.specs.Buffer.{joined, readAddress}
+use Rattle.transfer.specs.Buffer.{addressOfBytes, readAddress}
 
 -- after a write word two address bytes follow; a read word sends from the buffer; after another word the part waits for START
 -- or STOP
-abbrev pub begun : Part → AddressBuffer → DeviceWord → Phase
-begun p b (ReadWord a16) = Sending (readAddress p b a16) 0
-begun p b (WriteWord a16) = Taking (HighByte a16) 0 0
-begun p b OtherWord = Deaf
+abbrev pub phaseAfterWord : Part → AddressBuffer → DeviceWord → Phase
+phaseAfterWord p b (ReadWord a16) = Sending (readAddress p b a16) 0
+phaseAfterWord p b (WriteWord a16) = Taking (HighByte a16) 0 0
+phaseAfterWord p b OtherWord = Ignoring
 
 -- the phase after the ninth rise of a byte that came in as v; a data byte's address goes up and rolls over
-abbrev pub finished : Part → ℕ → AddressBuffer → Field → ℕ → Phase
-finished p pins b Word v = begun p b (wordOf p pins v)
-finished p pins b (HighByte a16) v = Taking (LowByte a16 v) 0 0
-finished p pins b (LowByte a16 high) v = Taking (Data (joined p a16 high v)) 0 0
-finished p pins b (Data a) v = Taking (Data (nextAddress (p .size) a)) 0 0
+abbrev pub phaseAfterByte : Part → ℕ → AddressBuffer → Field → ℕ → Phase
+phaseAfterByte p pins b Word v = phaseAfterWord p b (wordOf p pins v)
+phaseAfterByte p pins b (HighByte a16) v = Taking (LowByte a16 v) 0 0
+phaseAfterByte p pins b (LowByte a16 high) v = Taking (Data (addressOfBytes p a16 high v)) 0 0
+phaseAfterByte p pins b (Data a) v = Taking (Data (nextAddress (p .size) a)) 0 0
 
 -- one rise more of a byte that comes in
 abbrev pub afterTaken : Part → ℕ → AddressBuffer → Field → ℕ → ℕ → Bool → Phase
-afterTaken p pins b f n v line = cond (ltb n 8) (Taking f (n + 1) (shifted v line)) (finished p pins b f v)
+afterTaken p pins b f n v line = cond (ltb n 8) (Taking f (n + 1) (shifted v line)) (phaseAfterByte p pins b f v)
 
 -- one rise more of a byte that goes out: a master's low at the ninth rise asks for the next byte; high ends the transfer
 abbrev pub afterSent : Part → ℕ → ℕ → Bool → Phase
-afterSent p a n line = cond (ltb n 8) (Sending a (n + 1)) (cond line Deaf (Sending (nextAddress (p .size) a) 0))
+afterSent p a n line = cond (ltb n 8) (Sending a (n + 1)) (cond line Ignoring (Sending (nextAddress (p .size) a) 0))
 
 -- the phase after a rise of SCL with the line at that level
 abbrev pub afterRise : Part → ℕ → AddressBuffer → Phase → Bool → Phase
 afterRise p pins b Rest line = Rest
-afterRise p pins b Deaf line = Deaf
+afterRise p pins b Ignoring line = Ignoring
 afterRise p pins b (Taking f n v) line = afterTaken p pins b f n v line
 afterRise p pins b (Sending a n) line = afterSent p a n line

@@ -8,7 +8,7 @@ use Rattle.transfer.specs.declared.buffer.AddressBuffer.{AddressBuffer}
 use Rattle.transfer.specs.declared.phase.Field.{Field}
 use Rattle.transfer.specs.declared.phase.Field.the-variants.{Word, HighByte, LowByte, Data}
 use Rattle.transfer.specs.declared.phase.Phase.{Phase}
-use Rattle.transfer.specs.declared.phase.Phase.the-variants.{Rest, Deaf, Taking, Sending}
+use Rattle.transfer.specs.declared.phase.Phase.the-variants.{Rest, Ignoring, Taking, Sending}
 
 -- an address lies within the part
 abbrev pub FieldIn : Part → Field → Type 0
@@ -20,7 +20,7 @@ FieldIn p (Data a) = a < p .size
 -- at most eight of nine rises are in, and the bits make a number of as many bits
 abbrev pub PhaseIn : Part → Phase → Type 0
 PhaseIn p Rest = Unit {0}
-PhaseIn p Deaf = Unit {0}
+PhaseIn p Ignoring = Unit {0}
 PhaseIn p (Taking f n v) = FieldIn p f × (n ≤ 8) × (v < 2 ^ n)
 PhaseIn p (Sending a n) = (a < p .size) × (n ≤ 8)
 
@@ -38,6 +38,6 @@ fieldIn p (Data a) = ltb a (p .size)
 
 abbrev pub phaseIn : Part → Phase → Bool
 phaseIn p Rest = true
-phaseIn p Deaf = true
+phaseIn p Ignoring = true
 phaseIn p (Taking f n v) = fieldIn p f && (leb n 8 && ltb v (2 ^ n))
 phaseIn p (Sending a n) = ltb a (p .size) && leb n 8

@@ -2,7 +2,7 @@
 ghost use mathlib.Core.Path.{_≡_};
 ghost use Prim.Native.Nat.{_<_};
 ghost use Rattle.parts.specs.Table.{Fit};
-ghost use Rattle.transfer.specs.Buffer.{joined, paged, readAddress, fieldBuffer, bufferAfter};
+ghost use Rattle.transfer.specs.Buffer.{addressOfBytes, withA16, readAddress, fieldBuffer, bufferAfter};
 ghost use Rattle.transfer.specs.Ranges.{PhaseIn};
 use crate::phase::Field;
 use crate::phase::Phase;
@@ -14,18 +14,18 @@ pub struct AddressBuffer {
 }
 
 // The address of A16, the first and the second address byte.
-pub fn join(part: Part, a16: bool, high: u8, low: u8) -> u32
+pub fn address_of_bytes(part: Part, a16: bool, high: u8, low: u8) -> u32
     requires { ⌜ Fit part ⌝ }
-    ensures { λ r. ⌜ r ≡ joined part a16 high low ⌝ }
+    ensures { λ r. ⌜ r ≡ addressOfBytes part a16 high low ⌝ }
 {
     let top = parts::status::bit_of(a16) as u32;
     (65536 * top + 256 * high as u32 + low as u32) % part.size
 }
 
 // An address with bit 16 replaced by A16 of the word.
-fn page(part: Part, a16: bool, address: u32) -> u32
+fn with_a16(part: Part, a16: bool, address: u32) -> u32
     requires { ⌜ Fit part × (address < part .size) ⌝ }
-    ensures { λ r. ⌜ (r ≡ paged part a16 address) × (r < part .size) ⌝ }
+    ensures { λ r. ⌜ (r ≡ withA16 part a16 address) × (r < part .size) ⌝ }
 {
     if part.a16 {
         let top = parts::status::bit_of(a16) as u32;
@@ -40,7 +40,7 @@ pub fn read_address(part: Part, buffer: AddressBuffer, a16: bool) -> u32
     requires { ⌜ Fit part × (buffer .address < part .size) ⌝ }
     ensures { λ r. ⌜ r ≡ readAddress part buffer a16 ⌝ }
 {
-    let address = page(part, a16, buffer.address);
+    let address = with_a16(part, a16, buffer.address);
     if buffer.used {
         serial::address::next_address(part.size, address)
     } else {
@@ -57,7 +57,7 @@ fn field_buffer(part: Part, buffer: AddressBuffer, field: Field, value: u8) -> A
         Field::Word => buffer,
         Field::HighByte { a16: _ } => buffer,
         Field::LowByte { a16, high } => AddressBuffer {
-            address: join(part, a16, high, value),
+            address: address_of_bytes(part, a16, high, value),
             used: false,
         },
         Field::Data { address } => AddressBuffer {
@@ -74,7 +74,7 @@ pub fn buffer_after(part: Part, buffer: AddressBuffer, phase: Phase) -> AddressB
 {
     match phase {
         Phase::Rest => buffer,
-        Phase::Deaf => buffer,
+        Phase::Ignoring => buffer,
         Phase::Taking {
             field,
             count,

@@ -13,8 +13,8 @@ pub enum Field {
 pub enum Phase {
     // after STOP or power on: waits for START
     Rest,
-    // between START and STOP with nothing to do: waits for START or STOP
-    Deaf,
+    // ignores the bus until START or STOP, after another part's word or a transfer that the master ended (document 01: deaf)
+    Ignoring,
     // count rises of nine are in, whose first eight bits make value
     Taking { field: Field, count: u8, value: u32 },
     // the byte at an address goes out, count rises of nine are in

@@ -21,7 +21,7 @@ pub fn phase_in(part: Part, phase: Phase) -> bool
 {
     match phase {
         Phase::Rest => true,
-        Phase::Deaf => true,
+        Phase::Ignoring => true,
         Phase::Taking {
             field,
             count,

@@ -2,7 +2,7 @@
 ghost use mathlib.Core.Path.{_≡_};
 ghost use Prim.Native.Nat.{_<_};
 ghost use Rattle.parts.specs.Table.{Fit};
-ghost use Rattle.transfer.specs.Phase.{begun, finished, afterTaken, afterSent, afterRise};
+ghost use Rattle.transfer.specs.Phase.{phaseAfterWord, phaseAfterByte, afterTaken, afterSent, afterRise};
 ghost use Rattle.transfer.specs.Ranges.{FieldIn, PhaseIn, Placed};
 use crate::buffer::AddressBuffer;
 use crate::phase::Field;
@@ -22,9 +22,9 @@ pub fn taking(field: Field) -> Phase
 }
 
 // The phase after the ninth rise of a word.
-fn begin(part: Part, buffer: AddressBuffer, word: DeviceWord) -> Phase
+fn phase_after_word(part: Part, buffer: AddressBuffer, word: DeviceWord) -> Phase
     requires { ⌜ Fit part × (buffer .address < part .size) ⌝ }
-    ensures { λ r. ⌜ r ≡ begun part buffer word ⌝ }
+    ensures { λ r. ⌜ r ≡ phaseAfterWord part buffer word ⌝ }
 {
     match word {
         DeviceWord::ReadWord { a16 } => Phase::Sending {
@@ -32,20 +32,24 @@ fn begin(part: Part, buffer: AddressBuffer, word: DeviceWord) -> Phase
             count: 0,
         },
         DeviceWord::WriteWord { a16 } => taking(Field::HighByte { a16 }),
-        DeviceWord::OtherWord => Phase::Deaf,
+        DeviceWord::OtherWord => Phase::Ignoring,
     }
 }
 
 // The phase after the ninth rise of a byte that came in as value.
-fn finish(part: Part, pins: u8, buffer: AddressBuffer, field: Field, value: u8) -> Phase
+fn phase_after_byte(part: Part, pins: u8, buffer: AddressBuffer, field: Field, value: u8) -> Phase
     requires { ⌜ Placed part pins buffer × FieldIn part field ⌝ }
-    ensures { λ r. ⌜ r ≡ finished part pins buffer field value ⌝ }
+    ensures { λ r. ⌜ r ≡ phaseAfterByte part pins buffer field value ⌝ }
 {
     match field {
-        Field::Word => begin(part, buffer, crate::word::word_of(part, pins, value as u32)),
+        Field::Word => phase_after_word(
+            part,
+            buffer,
+            crate::word::word_of(part, pins, value as u32),
+        ),
         Field::HighByte { a16 } => taking(Field::LowByte { a16, high: value }),
         Field::LowByte { a16, high } => taking(Field::Data {
-            address: crate::buffer::join(part, a16, high, value),
+            address: crate::buffer::address_of_bytes(part, a16, high, value),
         }),
         Field::Data { address } => taking(Field::Data {
             address: serial::address::next_address(part.size, address),
@@ -73,7 +77,7 @@ fn take_bit(
             value: serial::bits::shift_in(value, line),
         }
     } else {
-        finish(part, pins, buffer, field, value as u8)
+        phase_after_byte(part, pins, buffer, field, value as u8)
     }
 }
 
@@ -89,7 +93,7 @@ fn send_bit(part: Part, address: u32, count: u8, line: bool) -> Phase
         }
     } else {
         if line {
-            Phase::Deaf
+            Phase::Ignoring
         } else {
             Phase::Sending {
                 address: serial::address::next_address(part.size, address),
@@ -106,7 +110,7 @@ pub fn after_rise(part: Part, pins: u8, buffer: AddressBuffer, phase: Phase, lin
 {
     match phase {
         Phase::Rest => phase,
-        Phase::Deaf => phase,
+        Phase::Ignoring => phase,
         Phase::Taking {
             field,
             count,

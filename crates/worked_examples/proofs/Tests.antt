@@ -7,9 +7,9 @@ use lib.Dec.{eqb}
 use lib.ListN.{length, getD}
 use borrow.Author.Tests.{eqb-true}
 use Rattle.parts.proofs.Rows.{and-both}
-use Rattle.worked_examples.specs.Traces.{bytesOf, answersOf}
-use Rattle.worked_examples.specs.Cases.{Cell, cell, filled, Case, Gives, traceOf, Holds, Every}
-use Rattle.worked_examples.proofs.Trail.{described, filled-reads, filled-length, Trail, runFrom, runBy, run-by}
+use Rattle.worked_examples.specs.Traces.{stepBytes, stepAnswers}
+use Rattle.worked_examples.specs.Cases.{Cell, cell, withCells, Case, Gives, traceOf, Holds, Every}
+use Rattle.worked_examples.proofs.Trail.{described, cells-read, cells-length, Trail, runFrom, runBy, run-by}
 
 abbrev same : List ℕ → List ℕ → Bool
 same [] [] = true
@@ -48,16 +48,16 @@ abbrev gives : Case → Trail → Bool
 gives c r =
     eqb (r .number) (c .number)
     && (eqb (r .count) (length (c .steps))
-    && (eqb (r .offset) (length (bytesOf (c .steps)))
-    && (same (r .answers) (answersOf (c .steps))
+    && (eqb (r .offset) (length (stepBytes (c .steps)))
+    && (same (r .answers) (stepAnswers (c .steps))
     && sameCells (r .writes) (c .cells))))
 
 gives-all : (c : Case) (m : List ℕ) (r : Trail) → gives c r ≡ true → Gives c m (runFrom m r)
 gives-all c m r h =
     let n = and-both (eqb (r .number) (c .number)) _ h in
     let k = and-both (eqb (r .count) (length (c .steps))) _ (n .1) in
-    let o = and-both (eqb (r .offset) (length (bytesOf (c .steps)))) _ (k .1) in
-    let a = and-both (same (r .answers) (answersOf (c .steps))) _ (o .1) in
+    let o = and-both (eqb (r .offset) (length (stepBytes (c .steps)))) _ (k .1) in
+    let a = and-both (same (r .answers) (stepAnswers (c .steps))) _ (o .1) in
     record {
       number = eqb-true _ _ (n .0);
       count = eqb-true _ _ (k .0);
@@ -73,9 +73,9 @@ trailOf g c = runBy (c .quota) (c .size) (traceOf c) (c .model) (described (c .s
 case-holds : (c : Case) → ((g : ℕ → ℕ) → gives c (trailOf g c) ≡ true) → Holds c
 case-holds c test m e =
     let g : ℕ → ℕ = λ a. getD m a 0 in
-    let first : List ℕ = filled m (c .first) in
-    rw (run-by (c .quota) (c .size) (traceOf c) (c .model) first (described (c .size) (c .first) g) (filled-length m (c .first) ∙ e)
-    (filled-reads (c .size) m g (c .first) e (λ a. refl)))
+    let first : List ℕ = withCells m (c .first) in
+    rw (run-by (c .quota) (c .size) (traceOf c) (c .model) first (described (c .size) (c .first) g) (cells-length m (c .first) ∙ e)
+    (cells-read (c .size) m g (c .first) e (λ a. refl)))
     (gives-all c first (trailOf g c) (test g))
 
 abbrev pub all : (ℕ → ℕ) → List Case → Bool

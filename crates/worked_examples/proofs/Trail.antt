@@ -56,7 +56,7 @@ use Rattle.runs.specs.Event as Events
 use Rattle.runs.specs.Event.{eventOf}
 use Rattle.runs.specs.Run as Runs
 use Rattle.runs.specs.Run.{Run, stop, after, loopOf, runOf}
-use Rattle.worked_examples.specs.Cases.{Cell, cell, filled}
+use Rattle.worked_examples.specs.Cases.{Cell, cell, withCells}
 
 -- ---- bytes by address
 
@@ -95,16 +95,16 @@ abbrev pub described : ℕ → List Cell → (ℕ → ℕ) → ℕ → ℕ
 described size [] f = f
 described size (k ∷ ks) f = described size ks (updated size (Byte (k .address) (k .value)) f)
 
-pub filled-reads : (size : ℕ) (m : List ℕ) (f : ℕ → ℕ) (ks : List Cell) → length m ≡ size → Reads m f
-    → Reads (filled m ks) (described size ks f)
-filled-reads size m f [] e h = h
-filled-reads size m f (k ∷ ks) e h =
-    filled-reads size (set m (k .address) (k .value)) _ ks (length-set m (k .address) (k .value) ∙ e)
+pub cells-read : (size : ℕ) (m : List ℕ) (f : ℕ → ℕ) (ks : List Cell) → length m ≡ size → Reads m f
+    → Reads (withCells m ks) (described size ks f)
+cells-read size m f [] e h = h
+cells-read size m f (k ∷ ks) e h =
+    cells-read size (set m (k .address) (k .value)) _ ks (length-set m (k .address) (k .value) ∙ e)
     (write-reads size m f e h (Byte (k .address) (k .value)))
 
-pub filled-length : (m : List ℕ) (ks : List Cell) → length (filled m ks) ≡ length m
-filled-length m [] = refl
-filled-length m (k ∷ ks) = filled-length (set m (k .address) (k .value)) ks ∙ length-set m (k .address) (k .value)
+pub cells-length : (m : List ℕ) (ks : List Cell) → length (withCells m ks) ≡ length m
+cells-length m [] = refl
+cells-length m (k ∷ ks) = cells-length (set m (k .address) (k .value)) ks ∙ length-set m (k .address) (k .value)
 
 -- ---- one sample
 
@@ -115,7 +115,7 @@ shownBy p st f (Identity i) k = SpiShow.shownBit p st [] (Identity i) k
 
 abbrev fallBy : Part → Status → (ℕ → ℕ) → SpiPhase.Phase → Answer → Answer
 fallBy p st f SpiPhases.Rest old = old
-fallBy p st f SpiPhases.Deaf old = old
+fallBy p st f SpiPhases.Ignoring old = old
 fallBy p st f (SpiPhases.Taking g n v) old = old
 fallBy p st f (SpiPhases.Showing s k) old = shownBy p st f s k
 fallBy p st f (SpiPhases.Waiting a) old = old
@@ -129,7 +129,7 @@ spiBy SpiEdges.Quiet p st s l f = SpiSample.stepOn SpiEdges.Quiet p st s l []
 
 abbrev pullBy : Part → ℕ → (ℕ → ℕ) → I2cPhase.Phase → Bool
 pullBy p pins f I2cPhases.Rest = false
-pullBy p pins f I2cPhases.Deaf = false
+pullBy p pins f I2cPhases.Ignoring = false
 pullBy p pins f (I2cPhases.Taking g n v) = I2cPull.pullsAfter p pins [] (I2cPhases.Taking g n v)
 pullBy p pins f (I2cPhases.Sending a n) = cond (ltb n 8) (not (bitAt (f a) n)) false
 
@@ -148,7 +148,7 @@ module _ (m : List ℕ) (f : ℕ → ℕ) (h : Reads m f) where
 
   fall-by : (p : Part) (st : Status) (ph : SpiPhase.Phase) (old : Answer) → SpiShow.afterFall p st m ph old ≡ fallBy p st f ph old
   fall-by p st SpiPhases.Rest old = refl
-  fall-by p st SpiPhases.Deaf old = refl
+  fall-by p st SpiPhases.Ignoring old = refl
   fall-by p st (SpiPhases.Taking g n v) old = refl
   fall-by p st (SpiPhases.Showing s k) old = shown-by p st s k
   fall-by p st (SpiPhases.Waiting a) old = refl
@@ -163,7 +163,7 @@ module _ (m : List ℕ) (f : ℕ → ℕ) (h : Reads m f) where
 
   pull-by : (p : Part) (pins : ℕ) (ph : I2cPhase.Phase) → I2cPull.pullsAfter p pins m ph ≡ pullBy p pins f ph
   pull-by p pins I2cPhases.Rest = refl
-  pull-by p pins I2cPhases.Deaf = refl
+  pull-by p pins I2cPhases.Ignoring = refl
   pull-by p pins (I2cPhases.Taking g n v) = refl
   pull-by p pins (I2cPhases.Sending a n) = ap (λ (v : ℕ). cond (ltb n 8) (not (bitAt v n)) false) (h a)
 
@@ -255,7 +255,7 @@ module _ (m : List ℕ) (f : ℕ → ℕ) (h : Reads m f) where
   read-by (Whole e n) s = advance-by (s .bus) (partOf (s .part)) s e
   read-by (Refused r) s = refl
 
-  verdict-by : (v : Verdict) (s : Model) (t : List ℕ) → Events.onVerdict v s m t ≡ outcome m (verdictBy v s f t)
+  verdict-by : (v : Verdict) (s : Model) (t : List ℕ) → Events.eventOnVerdict v s m t ≡ outcome m (verdictBy v s f t)
   verdict-by Passed s t = read-by (readOf (partOf (s .part)) t) s
   verdict-by (Failed r) s t = refl
 
@@ -282,7 +282,7 @@ runFrom m r =
       model = r .model;
       count = r .count;
       offset = r .offset;
-      memory = filled m (r .writes);
+      memory = withCells m (r .writes);
       answers = r .answers;
     }
 
@@ -358,6 +358,6 @@ pub run-by : (quota size : ℕ) (t : List ℕ) (s : Model) (m : List ℕ) (f : �
 unfolding runOf
 run-by quota size t s m f e h = rw e (by (checkOf s size))
   where
-    by : (v : Verdict) → Runs.onVerdict v quota t s m ≡ runFrom m (runVerdictBy v quota size t s f)
+    by : (v : Verdict) → Runs.runOnVerdict v quota t s m ≡ runFrom m (runVerdictBy v quota size t s f)
     by Passed = loop-by quota size t s m f e h
     by (Failed r) = refl

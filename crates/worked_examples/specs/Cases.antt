@@ -7,7 +7,7 @@ use lib.ListN.{length, getD, set}
 use Rattle.chip.specs.declared.model.Model.{Model}
 use Rattle.model.specs.Make.{makeOf}
 use Rattle.runs.specs.Run.{Run, runOf}
-use Rattle.worked_examples.specs.Traces.{Step, bytesOf, answersOf}
+use Rattle.worked_examples.specs.Traces.{Step, stepBytes, stepAnswers}
 
 -- the byte at an address
 pub record Cell : Type 0 where
@@ -18,9 +18,9 @@ abbrev pub cell : ℕ → ℕ → Cell
 cell a v = record { address = a; value = v }
 
 -- a memory with some bytes set, one after the other, and all others as they were
-abbrev pub filled : List ℕ → List Cell → List ℕ
-filled m [] = m
-filled m (k ∷ ks) = filled (set m (k .address) (k .value)) ks
+abbrev pub withCells : List ℕ → List Cell → List ℕ
+withCells m [] = m
+withCells m (k ∷ ks) = withCells (set m (k .address) (k .value)) ks
 
 pub record Case : Type 0 where
   -- the state before
@@ -42,12 +42,12 @@ pub record Case : Type 0 where
 pub record Gives (c : Case) (m : List ℕ) (r : Run) : Type 0 where
   pub number : r .number ≡ c .number
   pub count : r .count ≡ length (c .steps)
-  pub offset : r .offset ≡ length (bytesOf (c .steps))
-  pub answers : r .answers ≡ answersOf (c .steps)
-  pub memory : r .memory ≡ filled m (c .cells)
+  pub offset : r .offset ≡ length (stepBytes (c .steps))
+  pub answers : r .answers ≡ stepAnswers (c .steps)
+  pub memory : r .memory ≡ withCells m (c .cells)
 
 abbrev pub traceOf : Case → List ℕ
-traceOf c = bytesOf (c .steps) ++ c .rest
+traceOf c = stepBytes (c .steps) ++ c .rest
 
 -- on a memory
 abbrev pub HoldsOn : Case → List ℕ → Type 0
@@ -55,7 +55,7 @@ HoldsOn c m = Gives c m (runOf (c .quota) (traceOf c) (c .model) m)
 
 -- on every memory of the length that holds the first bytes
 abbrev pub Holds : Case → Type 0
-Holds c = (m : List ℕ) → length m ≡ c .size → HoldsOn c (filled m (c .first))
+Holds c = (m : List ℕ) → length m ≡ c .size → HoldsOn c (withCells m (c .first))
 
 -- of every entry of a list
 abbrev pub Every : {A : Type 0} → (A → Type 0) → List A → Type 0

@@ -77,7 +77,7 @@ statusCases =
     ∷ atWel (sample 10 2 ++ sample 26 1)
     -- the bit is SI in the sample in which SCK rises
     ∷ onPart0 (spiOn ++ selected 24 (spelled lateIn 0x06 0 8) ++ rdsr 0x02) []
-    -- power on with CS# 0: deaf until CS# has been 1
+    -- power on with CS# 0: the bus is ignored until CS# has been 1
     ∷ onPart0 (step (1 ∷ 24 ∷ []) 2 ++ sent 24 (0x05 ∷ 0 ∷ []) ++ sample 27 2 ++ sample 25 2 ++ rdsr 0x00) []
     -- the bits over a power cut: lost on part 0, saved on parts 1 and 2
     ∷ onPart0 (spiOn ++ wrsr 0x8c ++ rdsr 0x8c ++ powerOff ++ spiOn ++ rdsr 0x00) []
@@ -87,7 +87,7 @@ statusCases =
     ∷ made 1 0 5 [] (spiOn ++ rdsr 0x84) []
     ∷ made 1 0 7 [] (spiOn ++ rdsr 0x8c) []
     ∷ made 2 0 7 [] (spiOn ++ rdsr 0x8c) []
-    -- SLEEP: the next selection of part 1 is not heard, the one after it is, and WEL is kept; parts 0 and 2 lack it
+    -- SLEEP: the next selection of part 1 is ignored, the one after it is not, and WEL is kept; parts 0 and 2 lack it
     ∷ made 1 0 0 [] (spiOn ++ wren ++ command 24 (0xb9 ∷ []) ++ command 24 (0x05 ∷ 0 ∷ []) ++ rdsr 0x02) []
     ∷ onPart0 (spiOn ++ wren ++ command 24 (0xb9 ∷ []) ++ rdsr 0x02) []
     ∷ made 2 0 0 [] (spiOn ++ wren ++ command 24 (0xb9 ∷ []) ++ rdsr 0x02) []
@@ -145,13 +145,13 @@ topCases =
 -- ---- I2C
 
 -- the answer at the ninth clock of a word, where two words are the part's
-abbrev pub heard : ℕ → ℕ → ℕ → ℕ
-heard own own′ w = cond (eqb w own) 0 (cond (eqb w own′) 0 2)
+abbrev pub acknowledgeOf : ℕ → ℕ → ℕ → ℕ
+acknowledgeOf own own′ w = cond (eqb w own) 0 (cond (eqb w own′) 0 2)
 
 -- part, address pins, and which of the eight write words A0 to AE are acknowledged: one on part 3, one for each A16 on part 4
 abbrev pub addressed : ℕ → ℕ → ℕ → ℕ → List Case
 addressed part pins own own′ =
-    map (λ w. made part pins 0 [] (i2cOn 0 ++ word w (heard own own′ w)) [])
+    map (λ w. made part pins 0 [] (i2cOn 0 ++ word w (acknowledgeOf own own′ w)) [])
     (0xa0 ∷ 0xa2 ∷ 0xa4 ∷ 0xa6 ∷ 0xa8 ∷ 0xaa ∷ 0xac ∷ 0xae ∷ [])
 
 -- each setting of the address pins: A2 A1 A0 of part 3, A2 A1 of part 4

@@ -10,14 +10,14 @@ pub record Step : Type 0 where
   pub answer : ℕ
 
 -- the bytes of a trace
-abbrev pub bytesOf : List Step → List ℕ
-bytesOf [] = []
-bytesOf (x ∷ xs) = x .event ++ bytesOf xs
+abbrev pub stepBytes : List Step → List ℕ
+stepBytes [] = []
+stepBytes (x ∷ xs) = x .event ++ stepBytes xs
 
 -- the answers of its events
-abbrev pub answersOf : List Step → List ℕ
-answersOf [] = []
-answersOf (x ∷ xs) = x .answer ∷ answersOf xs
+abbrev pub stepAnswers : List Step → List ℕ
+stepAnswers [] = []
+stepAnswers (x ∷ xs) = x .answer ∷ stepAnswers xs
 
 -- one event
 abbrev pub step : List ℕ → ℕ → List Step

@@ -8,7 +8,7 @@ use crate::{HIGH, LOW, NOTHING};
 #[derive(Clone, Debug, PartialEq, Eq)]
 struct Selection {
     /// No answer and no effect until the next selection.
-    deaf: bool,
+    ignoring: bool,
     /// n: the counted rises so far.
     rises: u64,
     /// The last eight bits that came in.
@@ -26,9 +26,9 @@ struct Selection {
 }
 
 impl Selection {
-    fn begin(deaf: bool) -> Selection {
+    fn begin(ignoring: bool) -> Selection {
         Selection {
-            deaf,
+            ignoring,
             rises: 0,
             byte: 0,
             op: None,
@@ -53,7 +53,7 @@ pub struct Spi {
 }
 
 impl Spi {
-    /// Power on clears WEL and sleep; with CS# 0 the part is deaf until CS# has been 1.
+    /// Power on clears WEL and sleep; with CS# 0 the part ignores the bus until CS# has been 1.
     pub fn power_on(part: &'static Part, bits: u8, sample: u8) -> Spi {
         Spi {
             part,
@@ -95,7 +95,7 @@ impl Spi {
     }
 
     fn clock_edge(&mut self, new: u8, memory: &mut [u8]) {
-        if self.selection.deaf {
+        if self.selection.ignoring {
             return;
         }
         if new & SCK != 0 {
@@ -137,11 +137,11 @@ impl Spi {
         }
     }
 
-    /// A code the part lacks makes it deaf. Output starts after h rises.
+    /// After a code it lacks the part ignores the bus. Output starts after h rises.
     fn code(&mut self, code: u8) {
         let selection = &mut self.selection;
         selection.op = self.part.op(code);
-        selection.deaf = selection.op.is_none();
+        selection.ignoring = selection.op.is_none();
         selection.h = match selection.op {
             Some(Op::Rdsr | Op::Rdid) => Some(8),
             Some(Op::Read) => Some(8 + self.part.address_bits),

@@ -161,7 +161,7 @@ fn programs() {
 }
 
 #[test]
-fn sleep_makes_one_selection_deaf_and_keeps_wel() {
+fn sleep_makes_one_selection_ignored_and_keeps_wel() {
     let mut bus = Bus::spi(1, 0);
     bus.command(&[6]);
     bus.command(&[0xb9, 1, 2]);
@@ -251,7 +251,7 @@ fn status_writes() {
 }
 
 #[test]
-fn power_on_selected_is_deaf() {
+fn power_on_selected_ignores_the_bus() {
     let mut bus = Bus::make(0, 0, 0);
     bus.others = 24;
     bus.event(&[1, 24]);

@@ -9,7 +9,7 @@ returns : tie.Need-returns
 returns c = simp (sym (c .before .holds-bits .ensures) ∙ c .if2 .taken, lt-ltb _ _ (c .before .before .if1 .taken))
 
 returns-2 : tie.Need-returns-2
-returns-2 c = simp (c .no-bits .ensures, sym (c .before .before .holds-bits .ensures) ∙ c .before .if2 .left, lt-ltb _ _ (c .before .before .before .if1 .taken))
+returns-2 c = simp (c .bits-clear .ensures, sym (c .before .before .holds-bits .ensures) ∙ c .before .if2 .left, lt-ltb _ _ (c .before .before .before .if1 .taken))
 
 returns-3 : tie.Need-returns-3
 returns-3 c = simp (le-ltb _ _ (c .if1 .left))

@@ -1,7 +1,7 @@
 -- `under_power` meets its contract, event by event: by the requirement it is no sample. Assumes nothing.
 use mathlib.Core.Path.{refl}
 use borrow.Author.Needs.{needs}
-use Rattle.events.proofs.ApartLaws.{gives-spi-on, gives-i2c-on, gives-off, gives-expected}
+use Rattle.events.proofs.OtherEventLaws.{gives-spi-on, gives-i2c-on, gives-off, gives-expected}
 use Rattle.events.proofs.event.under_power.Statement.{statement}
 use Rattle.events.proofs.event.under_power.Tie as tie
 

@@ -133,7 +133,7 @@ returns : tie.Need-returns Inv-loop μ-loop
 returns c =
     let l = c .before .before .before .before .before .loop in
     let e = three _ _ (stops (l .inv .3) 8 (answerNumber (answerOf (l .pulling))) (λ u. refl) (sym (c .before .before .before .before .next-is .ensures) ∙ c .before .before .before .if1 .left)) in
-    (c .reach .ensures ∙ rw (c .before .on-bus .ensures) (e .0), (e .1, e .2))
+    (c .progress-at .ensures ∙ rw (c .before .on-bus .ensures) (e .0), (e .1, e .2))
 
 pub i2c-samples-spec : {M : Type 1} → statement M
 i2c-samples-spec =

@@ -15,7 +15,7 @@ use Rattle.chip.specs.Check.{Sound}
 use Rattle.chip.proofs.CheckLaws.{sound-in}
 use Rattle.runs.specs.Run.{ranOf, loopOf}
 use Rattle.runs.proofs.RunLaws.{final, finalOf, final-start, left-used, three}
-use Rattle.runs.proofs.SamplesRun.{samples-here, here-apart}
+use Rattle.runs.proofs.SamplesRun.{samples-here, here-other}
 use Rattle.runs.proofs.OtherLaws.{used, went}
 use Rattle.runs.proofs.run.replay_checked.Statement.{statement}
 use Rattle.runs.proofs.run.replay_checked.Tie as tie
@@ -69,7 +69,7 @@ one-other-requires c κs =
     let a = turn .before .before .before .before .before .before .before .before .before .before .args in
     let e = turn .samples .ensures in
     let h = samples-here _ (a .trace .now) (a .quota) (l .count) (l .at) (l .state) (l .memory) (l .answers) _ (l .inv .2) (l .inv .3) (turn .before .before .before .loop-test .taken) (l .inv .1) (l .inv .6) _ _ _ (e .0) (e .1 .0) (e .1 .1) in
-    (h .part, h .within, here-apart _ _ _ _ _ _ _ _ h (c .before .before .if1 .left))
+    (h .part, h .within, here-other _ _ _ _ _ _ _ _ h (c .before .before .if1 .left))
 
 same-length-3 : tie.Need-same-length-3 Inv-loop μ-loop
 same-length-3 c = let turn = c .before .before .before .before .before .before .before .before .before .before .before .before .before .before .before in turn .samples .kept .1 .1 .1 .1 .1 .1 .0 ∙ turn .before .before .before .before .loop .inv .4

@@ -111,7 +111,7 @@ returns : tie.Need-returns Inv-loop μ-loop
 returns c =
     let l = c .before .before .before .before .loop in
     let e = three _ _ (stops (l .inv .3) 32 (answerNumber (answerAt (levelsOf (l .last)) (l .shown))) (λ u. refl) (sym (c .before .before .before .next-is .ensures) ∙ c .before .before .if1 .left)) in
-    (c .reach .ensures ∙ rw (c .before .on-bus .ensures) (e .0), (e .1, e .2))
+    (c .progress-at .ensures ∙ rw (c .before .on-bus .ensures) (e .0), (e .1, e .2))
 
 pub spi-samples-spec : {M : Type 1} → statement M
 spi-samples-spec =

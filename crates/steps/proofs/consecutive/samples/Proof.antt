@@ -10,7 +10,7 @@ returns c =
     let a = c .before .before .before .before .before .before .before .args in
     let h = c .before .before .enum-told .given .1 in
     let e = three _ _ (none-unpowered (a .trace .now) (a .quota) (a .first) (a .start) (a .model) (a .memory .now) (a .answers .now) h) in
-    (c .reach .ensures ∙ sym (e .0), (sym (e .1), sym (e .2)))
+    (c .progress-at .ensures ∙ sym (e .0), (sym (e .1), sym (e .2)))
 
 pub samples-spec : {M : Type 1} → statement M
 samples-spec =

@@ -24,8 +24,8 @@ add-past c =
     omega (arith, taken-within _ _ _ _ read, length-drop (a .offset) (a .trace .now), start .pre .1, start .good .1 .1 .0 .0)
 
 -- what was read is no sample under power
-apart-requires : tie.Need-apart-requires
-apart-requires c κs =
+other-event-requires : tie.Need-other-event-requires
+other-event-requires c κs =
     let called = c .before .before .before in
     let start = called .before .before .before .before in
     let a = start .args in
@@ -38,7 +38,7 @@ returns-2 c =
     let a = called .before .before .before .before .args in
     let read = rw (tail-part (a .trace .now) (a .offset)) at (sym (called .read-event .ensures) ∙ c .before .before .before .before .before .read .given .1) in
     let n = ne-eqb _ _ (c .before .if1 .taken) in
-    let e = c .before .before .before .apart .ensures in
+    let e = c .before .before .before .other-event .ensures in
     (λ m. simp (c .ended .ensures, read, e m, n), λ m. simp (read, e m, n))
 
 returns-3 : tie.Need-returns-3
@@ -47,7 +47,7 @@ returns-3 c =
     let a = called .before .before .before .before .args in
     let read = rw (tail-part (a .trace .now) (a .offset)) at (sym (called .read-event .ensures) ∙ c .before .before .before .before .before .before .before .before .before .before .read .given .1) in
     let n = eq-eqb _ _ (c .before .before .before .before .before .before .if1 .left) in
-    let e = c .before .before .before .before .before .before .before .before .apart .ensures in
+    let e = c .before .before .before .before .before .before .before .before .other-event .ensures in
     (λ m. simp (c .ended2 .ensures, read, e m, n), λ m. simp (c .before .before .before .before .note .ensures, read, e m, n))
 
 pub one-other-spec : {M : Type 1} → statement M
@@ -63,7 +63,7 @@ one-other-spec =
     (λ c κs. search needs)
     returns
     add-past
-    apart-requires
+    other-event-requires
     (λ c κs. search needs)
     returns-2
     (λ c κs. search needs)

@@ -21,18 +21,18 @@ returns-3 c = simp (c .refused3 .ensures, lt-ltb _ _ (rw (c .before .before .eve
 
 returns-4 : tie.Need-returns-4
 unfolding readOf
-returns-4 c = simp (c .refused4 .ensures, rw (c .before .before .fields-in .ensures, c .before .before .before .event-of .ensures) at (not-true (c .before .before .fields-in .result) (c .before .if4 .taken)), le-ltb _ _ (rw (c .before .before .before .before .before .event-length .ensures) at (c .before .before .before .before .if3 .left)), rw (c .before .before .before .before .before .before .before .known-kind .ensures) at (not-false (c .before .before .before .before .before .before .before .known-kind .result) (c .before .before .before .before .before .before .if2 .left)), ne-eqb _ _ (c .before .before .before .before .before .before .before .before .before .if1 .left))
+returns-4 c = simp (c .refused4 .ensures, rw (c .before .before .fields-in .ensures, c .before .before .before .parsed-event .ensures) at (not-true (c .before .before .fields-in .result) (c .before .if4 .taken)), le-ltb _ _ (rw (c .before .before .before .before .before .event-length .ensures) at (c .before .before .before .before .if3 .left)), rw (c .before .before .before .before .before .before .before .known-kind .ensures) at (not-false (c .before .before .before .before .before .before .before .known-kind .result) (c .before .before .before .before .before .before .if2 .left)), ne-eqb _ _ (c .before .before .before .before .before .before .before .before .before .if1 .left))
 
 returns-5 : tie.Need-returns-5
 returns-5 c =
-    simp (c .before .before .event-of .ensures, c .before .before .before .before .event-length .ensures)
+    simp (c .before .before .parsed-event .ensures, c .before .before .before .before .event-length .ensures)
     (sym
     (reads-whole _ _ _ _
     (record {
       some = c .before .before .before .before .before .before .before .before .if1 .left;
       known = rw (c .before .before .before .before .before .before .known-kind .ensures) at (not-false (c .before .before .before .before .before .before .known-kind .result) (c .before .before .before .before .before .if2 .left));
       long = rw (c .before .before .before .before .event-length .ensures) at (c .before .before .before .if3 .left);
-      inside = rw (c .before .fields-in .ensures, c .before .before .event-of .ensures) at (not-false (c .before .fields-in .result) (c .if4 .left));
+      inside = rw (c .before .fields-in .ensures, c .before .before .parsed-event .ensures) at (not-false (c .before .fields-in .result) (c .if4 .left));
       event = refl;
       taken = refl;
     })))

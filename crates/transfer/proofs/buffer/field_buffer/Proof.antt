@@ -4,7 +4,7 @@ use Rattle.transfer.proofs.buffer.field_buffer.Statement.{statement}
 use Rattle.transfer.proofs.buffer.field_buffer.Tie as tie
 
 returns-3 : tie.Need-returns-3
-returns-3 c = simp (c .join .ensures, c .before .before .field .given .1)
+returns-3 c = simp (c .address-of-bytes .ensures, c .before .before .field .given .1)
 
 returns-4 : tie.Need-returns-4
 returns-4 c = simp (c .before .field2 .given .1)

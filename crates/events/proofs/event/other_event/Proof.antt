@@ -1,9 +1,9 @@
--- `apart` meets its contract, by what the bus waits for. Assumes nothing.
+-- `other_event` meets its contract, by what the bus waits for. Assumes nothing.
 use mathlib.Core.Path.{sym}
 use borrow.Author.Needs.{needs}
-use Rattle.events.proofs.ApartLaws.{gives-unpowered}
-use Rattle.events.proofs.event.apart.Statement.{statement}
-use Rattle.events.proofs.event.apart.Tie as tie
+use Rattle.events.proofs.OtherEventLaws.{gives-unpowered}
+use Rattle.events.proofs.event.other_event.Statement.{statement}
+use Rattle.events.proofs.event.other_event.Tie as tie
 
 returns : tie.Need-returns
 returns c =
@@ -28,8 +28,8 @@ returns-2 c = c .under-power .ensures
 returns-3 : tie.Need-returns-3
 returns-3 c = c .under-power2 .ensures
 
-pub apart-spec : {M : Type 1} → statement M
-apart-spec =
+pub other-event-spec : {M : Type 1} → statement M
+other-event-spec =
     tie.close
     (tie.spec
     (λ c. search needs)

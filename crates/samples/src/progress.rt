@@ -3,24 +3,30 @@ ghost use mathlib.Core.Path.{_≡_};
 ghost use Prim.Native.Nat.{_≤_, _+_};
 ghost use lib.ListN.{length, drop};
 ghost use Rattle.chip.specs.Model.{modelOf};
-ghost use Rattle.samples.specs.Samples.{reached, firstSample};
+ghost use Rattle.samples.specs.Samples.{progress, firstSample};
 use chip::model::BusState;
 use chip::model::Model;
 use parts::status::Status;
 
 // State, accepted events, and the offset of the first kind byte not accepted.
-pub struct Reached {
+pub struct Progress {
     pub model: Model,
     pub count: usize,
     pub offset: usize,
 }
 
 // The state of this part and these pins after so many events and bytes.
-pub fn reach(model: Model, status: Status, bus: BusState, count: usize, offset: usize) -> Reached
-    ensures { λ r. ⌜ r ≡ reached (modelOf (model .part) (model .pins) status bus) count offset ⌝ }
+pub fn progress_at(
+    model: Model,
+    status: Status,
+    bus: BusState,
+    count: usize,
+    offset: usize,
+) -> Progress
+    ensures { λ r. ⌜ r ≡ progress (modelOf (model .part) (model .pins) status bus) count offset ⌝ }
 {
     let model = chip::model::with_bus(model, status, bus);
-    Reached {
+    Progress {
         model,
         count,
         offset,

@@ -1,9 +1,9 @@
--- `event_of` meets its contract, by the kinds in the order of the definition, each with as many bytes as it reads. Assumes nothing.
+-- `parsed_event` meets its contract, by the kinds in the order of the definition, each with as many bytes as it reads. Assumes nothing.
 use borrow.Author.Tests.{ne-eqb}
 use native.Mathlib.Omega.{arith}
 use borrow.Author.Needs.{needs}
-use Rattle.trace.proofs.read.event_of.Statement.{statement}
-use Rattle.trace.proofs.read.event_of.Tie as tie
+use Rattle.trace.proofs.read.parsed_event.Statement.{statement}
+use Rattle.trace.proofs.read.parsed_event.Tie as tie
 
 shared-slice-read-t5 : tie.Need-shared-slice-read-t5
 shared-slice-read-t5 c = omega (arith, simp (c .before .match .keys1) at (c .before .before .before .pre))
@@ -41,8 +41,8 @@ returns-4 c = simp (c .before .match .keys4)
 returns-5 : tie.Need-returns-5
 returns-5 c = simp (ne-eqb _ _ (c .before .match .rest .0 .0 .0 .1), ne-eqb _ _ (c .before .match .rest .0 .0 .1), ne-eqb _ _ (c .before .match .rest .0 .1), ne-eqb _ _ (c .before .match .rest .1))
 
-pub event-of-spec : {M : Type 1} → statement M
-event-of-spec =
+pub parsed-event-spec : {M : Type 1} → statement M
+parsed-event-spec =
     tie.close
     (tie.spec
     shared-slice-read-t5

@@ -12,54 +12,54 @@ use Rattle.events.specs.declared.event.Answered.{Answered}
 use Rattle.chip.specs.declared.model.BusState.{BusState}
 use Rattle.chip.specs.declared.model.BusState.the-variants.{Unpowered, SpiOn, I2cOn}
 use Rattle.chip.specs.declared.model.Model.{Model}
-use Rattle.events.specs.Apart.{Apart, Answering, Gives}
+use Rattle.events.specs.OtherEvent.{OtherThanSample, Answering, EventGives}
 use Rattle.events.specs.Event.{Outcome, refused, expected, poweredOff, onUnpowered, advanceOf}
 
 -- ---- what such an event gives
 
 -- under power, with this answer at present
 module _ (s : Model) (a : Answer) where
-  pub gives-spi-on : (b : BusState) → s .bus ≡ b → Answering b a → (x : ℕ) → Gives s (SpiPowerOn x) (refused R.Powered s)
+  pub gives-spi-on : (b : BusState) → s .bus ≡ b → Answering b a → (x : ℕ) → EventGives s (SpiPowerOn x) (refused R.Powered s)
   unfolding advanceOf
   gives-spi-on Unpowered k h x m = absurd h
   gives-spi-on (SpiOn y) k h x m = rw k
   gives-spi-on (I2cOn y) k h x m = rw k
 
-  pub gives-i2c-on : (b : BusState) → s .bus ≡ b → Answering b a → (x start : ℕ) → Gives s (I2cPowerOn x start) (refused R.Powered s)
+  pub gives-i2c-on : (b : BusState) → s .bus ≡ b → Answering b a → (x start : ℕ) → EventGives s (I2cPowerOn x start) (refused R.Powered s)
   unfolding advanceOf
   gives-i2c-on Unpowered k h x start m = absurd h
   gives-i2c-on (SpiOn y) k h x start m = rw k
   gives-i2c-on (I2cOn y) k h x start m = rw k
 
-  pub gives-off : (b : BusState) → s .bus ≡ b → Answering b a → Gives s PowerOff (poweredOff (partOf (s .part)) s)
+  pub gives-off : (b : BusState) → s .bus ≡ b → Answering b a → EventGives s PowerOff (poweredOff (partOf (s .part)) s)
   unfolding advanceOf
   gives-off Unpowered k h m = absurd h
   gives-off (SpiOn y) k h m = rw k
   gives-off (I2cOn y) k h m = rw k
 
-  pub gives-expected : (b : BusState) → s .bus ≡ b → Answering b a → (v : ℕ) → Gives s (Expected v) (expected s a v)
+  pub gives-expected : (b : BusState) → s .bus ≡ b → Answering b a → (v : ℕ) → EventGives s (Expected v) (expected s a v)
   unfolding advanceOf
   gives-expected Unpowered k h v m = absurd h
   gives-expected (SpiOn y) k h v m = rw (k, h)
   gives-expected (I2cOn y) k h v m = rw (k, h)
 
-pub gives-unpowered : (s : Model) (e : Event) → s .bus ≡ Unpowered → Gives s e (onUnpowered s e)
+pub gives-unpowered : (s : Model) (e : Event) → s .bus ≡ Unpowered → EventGives s e (onUnpowered s e)
 unfolding advanceOf
 gives-unpowered s e k m = rw k
 
 -- ---- so it leaves the memory
 
-gives-powered : (s : Model) (a : Answer) (b : BusState) → s .bus ≡ b → Answering b a → (e : Event) → NoSample e → (r : Answered) × Gives s e r
+gives-powered : (s : Model) (a : Answer) (b : BusState) → s .bus ≡ b → Answering b a → (e : Event) → NoSample e → (r : Answered) × EventGives s e r
 gives-powered s a b k h (SpiPowerOn x) n = (_, gives-spi-on s a b k h x)
 gives-powered s a b k h (I2cPowerOn x start) n = (_, gives-i2c-on s a b k h x start)
 gives-powered s a b k h PowerOff n = (_, gives-off s a b k h)
 gives-powered s a b k h (Sample x) n = absurd n
 gives-powered s a b k h (Expected v) n = (_, gives-expected s a b k h v)
 
-gives : (b : BusState) (s : Model) (e : Event) → s .bus ≡ b → Apart b e → (r : Answered) × Gives s e r
+gives : (b : BusState) (s : Model) (e : Event) → s .bus ≡ b → OtherThanSample b e → (r : Answered) × EventGives s e r
 gives Unpowered s e k n = (_, gives-unpowered s e k)
 gives (SpiOn x) s e k n = gives-powered s _ (SpiOn x) k refl e n
 gives (I2cOn x) s e k n = gives-powered s _ (I2cOn x) k refl e n
 
-pub apart-keeps : (s : Model) (m : List ℕ) (e : Event) → Apart (s .bus) e → advanceOf s m e .memory ≡ m
-apart-keeps s m e n = ap (λ (o : Outcome). o .memory) (gives (s .bus) s e refl n .1 m)
+pub other-keeps : (s : Model) (m : List ℕ) (e : Event) → OtherThanSample (s .bus) e → advanceOf s m e .memory ≡ m
+other-keeps s m e n = ap (λ (o : Outcome). o .memory) (gives (s .bus) s e refl n .1 m)

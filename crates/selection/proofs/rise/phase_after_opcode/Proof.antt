@@ -1,7 +1,7 @@
--- `begin` meets its contract, command by command. Assumes nothing.
+-- `phase_after_opcode` meets its contract, command by command. Assumes nothing.
 use borrow.Author.Needs.{needs}
-use Rattle.selection.proofs.rise.begin.Statement.{statement}
-use Rattle.selection.proofs.rise.begin.Tie as tie
+use Rattle.selection.proofs.rise.phase_after_opcode.Statement.{statement}
+use Rattle.selection.proofs.rise.phase_after_opcode.Tie as tie
 
 returns : tie.Need-returns
 returns c = simp (c .waiting .ensures, c .before .enum-told .given .1)
@@ -30,8 +30,8 @@ returns-8 c = simp (c .showing2 .ensures, c .before .enum-told8 .given .1)
 returns-9 : tie.Need-returns-9
 returns-9 c = simp (c .waiting3 .ensures, c .before .enum-told9 .given .1)
 
-pub begin-spec : {M : Type 1} → statement M
-begin-spec =
+pub phase-after-opcode-spec : {M : Type 1} → statement M
+phase-after-opcode-spec =
     tie.close
     (tie.spec
     (λ c. search needs)

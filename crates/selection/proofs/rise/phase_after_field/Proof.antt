@@ -1,8 +1,8 @@
--- `fill` meets its contract, field by field: an address within the size goes up, a byte of eight bits fits. Assumes nothing.
+-- `phase_after_field` meets its contract, field by field: an address within the size goes up, a byte of eight bits fits. Assumes nothing.
 use native.Mathlib.Omega.{arith}
 use borrow.Author.Needs.{needs}
-use Rattle.selection.proofs.rise.fill.Statement.{statement}
-use Rattle.selection.proofs.rise.fill.Tie as tie
+use Rattle.selection.proofs.rise.phase_after_field.Statement.{statement}
+use Rattle.selection.proofs.rise.phase_after_field.Tie as tie
 
 next-address-requires : tie.Need-next-address-requires
 next-address-requires c κs = rw (c .before .field2 .given .1) at (c .before .before .before .pre .1)
@@ -11,7 +11,7 @@ cast-t17 : tie.Need-cast-t17
 cast-t17 c = let h = rw (c .enum-told5 .given .1) at (c .before .before .pre .2) in omega arith
 
 returns : tie.Need-returns
-returns c = simp (c .begin .ensures, c .before .command-of .ensures, c .before .before .enum-told .given .1)
+returns c = simp (c .phase-after-opcode .ensures, c .before .command-of .ensures, c .before .before .enum-told .given .1)
 
 returns-2 : tie.Need-returns-2
 returns-2 c = simp (c .showing .ensures, c .before .before .enum-told2 .given .1)
@@ -31,8 +31,8 @@ returns-6 c = simp (c .taking3 .ensures, c .before .next-address .ensures, c .be
 returns-7 : tie.Need-returns-7
 returns-7 c = simp (c .waiting .ensures, c .before .enum-told5 .given .1)
 
-pub fill-spec : {M : Type 1} → statement M
-fill-spec =
+pub phase-after-field-spec : {M : Type 1} → statement M
+phase-after-field-spec =
     tie.close
     (tie.spec
     (λ c. search needs)

@@ -3,8 +3,8 @@ use mathlib.Core.Path.{sym}
 use native.Mathlib.Omega.{arith}
 use Rattle.samples.proofs.SamplesLaws.{first-4, first-other}
 use borrow.Author.Needs.{needs}
-use Rattle.samples.proofs.reached.first_sample.Statement.{statement}
-use Rattle.samples.proofs.reached.first_sample.Tie as tie
+use Rattle.samples.proofs.progress.first_sample.Statement.{statement}
+use Rattle.samples.proofs.progress.first_sample.Tie as tie
 
 add-result : tie.Need-add-result
 add-result c = let start = c .before .before in omega (arith, start .pre, start .good .0 .0)

@@ -14,10 +14,10 @@ use Rattle.chip.specs.declared.model.Model.{Model}
 use Rattle.events.specs.Event.{keeping, advanceOf}
 
 -- no sample, if there is power
-abbrev pub Apart : BusState → Event → Type 0
-Apart Unpowered e = Unit {0}
-Apart (SpiOn x) e = NoSample e
-Apart (I2cOn x) e = NoSample e
+abbrev pub OtherThanSample : BusState → Event → Type 0
+OtherThanSample Unpowered e = Unit {0}
+OtherThanSample (SpiOn x) e = NoSample e
+OtherThanSample (I2cOn x) e = NoSample e
 
 -- there is power, and the part answers a at present
 abbrev pub Answering : BusState → Answer → Type 0
@@ -26,5 +26,5 @@ Answering (SpiOn x) a = SpiShow.answerAt (x .last) (x .shown) ≡ a
 Answering (I2cOn x) a = I2cSample.answerOf (x .pulling) ≡ a
 
 -- the event gives r on any memory, and leaves the memory as it is
-abbrev pub Gives : Model → Event → Answered → Type 0
-Gives s e r = (m : List ℕ) → advanceOf s m e ≡ keeping m r
+abbrev pub EventGives : Model → Event → Answered → Type 0
+EventGives s e r = (m : List ℕ) → advanceOf s m e ≡ keeping m r
