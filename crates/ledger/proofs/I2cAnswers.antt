@@ -23,7 +23,7 @@ use Rattle.ledger.specs.Stores.{stored}
 use Rattle.ledger.specs.I2cLedger.{Clock, Item, idle, span, withClock, itemsOnEdge, Wires, wiresAt, edgeBetween, writes}
 use Rattle.ledger.specs.I2cAnswers.{unusedAt, openBuffer, carried, LastFall, noFall, afterRises, fallIn, fallOn, pullsSince, pullAnswer}
 use Rattle.ledger.proofs.StoreLaws.{stored-append}
-use Rattle.ledger.proofs.WordLaws.{Wired}
+use Rattle.ledger.specs.Word.{Wired}
 use Rattle.ledger.proofs.I2cReads.{Place, after, after-more}
 use Rattle.ledger.proofs.I2cShows.{span-told, pull-same}
 use Rattle.ledger.proofs.I2cFits.{line-is, answer-is, same-edge, Good}

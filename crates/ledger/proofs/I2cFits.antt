@@ -23,7 +23,7 @@ use Rattle.i2c.specs.Store.{riseWrite}
 use Rattle.ledger.specs.Stores.{stored}
 use Rattle.ledger.specs.I2cLedger.{Clock, Item, idle, span, withClock, itemsOnEdge, Wires, wiresAt, edgeBetween, writes}
 use Rattle.ledger.proofs.StoreLaws.{stored-append, applied-stored}
-use Rattle.ledger.proofs.WordLaws.{Wired}
+use Rattle.ledger.specs.Word.{Wired}
 use Rattle.ledger.proofs.I2cReads.{after, after-more, wrote-more, span-wrote}
 
 -- ---- the edge that the part goes by is the one that the wires show

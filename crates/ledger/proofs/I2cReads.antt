@@ -30,7 +30,8 @@ use Rattle.ledger.specs.I2cLedger.{Clock, Byte, value, lineAt, nineRises
 use Rattle.ledger.proofs.Folds as Folds
 use Rattle.ledger.proofs.Folds.{after-snoc, given-snoc}
 use Rattle.ledger.proofs.GroupLaws.{number-snoc, Fronts, fronts}
-use Rattle.ledger.proofs.WordLaws.{Wired, word-in, address-after}
+use Rattle.ledger.specs.Word.{Wired}
+use Rattle.ledger.proofs.WordLaws.{word-in, address-after}
 use Rattle.ledger.proofs.StoreLaws.{storesOf}
 
 -- ---- the rises of a span by nines

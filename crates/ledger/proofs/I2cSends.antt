@@ -18,12 +18,7 @@ use Rattle.transfer.specs.declared.word.DeviceWord.the-variants.{ReadWord}
 use Rattle.transfer.specs.Buffer.{readAddress}
 use Rattle.ledger.specs.Word.{wordIn}
 use Rattle.ledger.specs.I2cLedger.{Clock, Byte, bytes, unfinished}
-use Rattle.ledger.specs.I2cAnswers.{showsLow, sendsLow, spanPulls}
-
--- each of the bytes asked for the next one
-abbrev pub AllLow : List Byte → Type 0
-AllLow [] = Unit {0}
-AllLow (v ∷ vs) = (v .ninth ≡ false) × AllLow vs
+use Rattle.ledger.specs.I2cAnswers.{AllAcknowledged, showsLow, sendsLow, spanPulls}
 
 -- one step up is a step modulo the size
 next-mod : (size a n : ℕ) → a < size → (nextAddress size a + n) % size ≡ (a + suc n) % size
@@ -38,7 +33,7 @@ next-mod size a n h = by (ltb (a + 1) size) refl
         ap (λ (x : ℕ). x % size) r ∙ sym (ap (λ (x : ℕ). x % size) q ∙ add-mod-left size n)
 
 module _ (p : Part) (m : List ℕ) where
-  sends-up : (vs : List Byte) (a : ℕ) (bs : List Bool) → AllLow vs → a < p .size
+  sends-up : (vs : List Byte) (a : ℕ) (bs : List Bool) → AllAcknowledged vs → a < p .size
       → sendsLow p m a vs bs ≡ showsLow (getD m ((a + length vs) % p .size) 0) bs
   sends-up [] a bs l h = let q : a + 0 ≡ a = omega arith in rw (q, mod-eq-of-lt h)
   sends-up (v ∷ vs) a bs (l, ls) h =
@@ -46,7 +41,7 @@ module _ (p : Part) (m : List ℕ) where
 
   -- after an own read word and bytes that each asked for the next one, with k of the rises of a byte over
   pub span-sends : (pins : ℕ) (b : AddressBuffer) (ks : List Clock) (word : Byte) (vs : List Byte) (a16 : Bool) → readAddress p b a16 < p .size
-      → bytes ks ≡ word ∷ vs → wordIn p pins (word .bits) ≡ ReadWord a16 → AllLow vs → length (unfinished ks) < 8
+      → bytes ks ≡ word ∷ vs → wordIn p pins (word .bits) ≡ ReadWord a16 → AllAcknowledged vs → length (unfinished ks) < 8
       → spanPulls p pins m b (bytes ks) (unfinished ks)
       ≡ not (bitAt (getD m ((readAddress p b a16 + length vs) % p .size) 0) (length (unfinished ks)))
   span-sends pins b ks word vs a16 i n w l k =

@@ -24,11 +24,11 @@ use Rattle.transfer.specs.Word.{wordOf}
 use Rattle.ledger.specs.Bits.{number}
 use Rattle.ledger.specs.Groups.{groupsFrom}
 use Rattle.ledger.specs.Stores.{stored}
-use Rattle.ledger.specs.Word.{wordIn}
+use Rattle.ledger.specs.Word.{Wired, wordIn}
 use Rattle.ledger.specs.I2cLedger.{Clock, Byte, value, lineAt, nineRises, bytes, unfinished, byWord, stores}
 use Rattle.ledger.specs.I2cAnswers.{usedAt, unusedAt, takenBuffer, writtenBuffer, sentBuffer, wordBuffer, spanBuffer, eighth, showsLow, sendsLow, wordPulls, spanPulls}
 use Rattle.ledger.proofs.GroupLaws.{longer}
-use Rattle.ledger.proofs.WordLaws.{Wired, word-in, address-after}
+use Rattle.ledger.proofs.WordLaws.{word-in, address-after}
 use Rattle.ledger.proofs.I2cReads.{lines-snoc, Eights, eights, Place, after}
 
 -- the whole bytes and the lines of the byte begun, after the rises xs of a first byte

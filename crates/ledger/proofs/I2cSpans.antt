@@ -11,11 +11,11 @@ use Rattle.transfer.specs.Edge.{edgeOn}
 use Rattle.transfer.specs.Levels.{levelsOf}
 use Rattle.transfer.proofs.LevelLaws.{levels-back}
 use Rattle.ledger.specs.History.{Entry}
-use Rattle.ledger.specs.Steps.{Step, sample, expected, entryOf, entered}
+use Rattle.ledger.specs.Steps.{Step, sample, expected, entryOf, followed}
 use Rattle.ledger.specs.I2cLedger.{Clock, Item, idle, span, itemsOnEdge, Wires, wiresAt, edgeBetween, lastWires, items}
 use Rattle.ledger.specs.I2cAnswers.{LastFall, fallOn, lastFall}
 use Rattle.ledger.specs.I2cAnswers as Answers
-use Rattle.ledger.specs.Spans.{sampleByte, wiresAfter, Start, Stop, Neither, AllNeither, clocksAfter, lastFallAfter}
+use Rattle.ledger.specs.Spans.{sampleByte, wiresSeen, Start, Stop, Neither, AllNeither, clocksAfter, lastFallAfter}
 
 -- a sample has the levels that its byte is made of
 levels-of : (l : Levels) → levelsOf (sampleByte l) ≡ l
@@ -62,54 +62,47 @@ start-fall : (v w : Wires) (is : List Item) (f : LastFall) → Start v w → fal
 start-fall v w is f s = rw (s .scl-before, s .scl-now, s .line-before, s .line-now)
 
 module _ (h : List Entry) (first : Levels) (answer : ℕ) where
-  -- the history in which a sample with the levels first is followed by the steps ss
-  abbrev after : List (Step Levels) → List Entry
-  after ss = entered sampleByte ss (entryOf sampleByte (sample first answer) ∷ h)
-
-  abbrev begin : Wires
-  begin = wiresAt first answer
-
-  last-wires : (ss : List (Step Levels)) → lastWires (after ss) ≡ wiresAfter begin ss
+  last-wires : (ss : List (Step Levels)) → lastWires (followed sampleByte h first answer ss) ≡ wiresSeen (wiresAt first answer) ss
   last-wires [] = ap (λ (l : Levels). wiresAt l answer) (levels-of first)
   last-wires (sample l a ∷ ss) = ap (λ (k : Levels). wiresAt k a) (levels-of l)
   last-wires (expected v a ∷ ss) = last-wires ss
 
-  module _ (started : Start (lastWires h) begin) where
+  module _ (started : Start (lastWires h) (wiresAt first answer)) where
     -- a START between the last sample of h and first, and neither START nor STOP since: one span, open, with the rises since
-    pub span-open : (ss : List (Step Levels)) → AllNeither begin ss → items (after ss) ≡ span (clocksAfter begin ss) ∷ items h
-    span-open [] ns = edge-items h first answer ∙ start-noted (lastWires h) begin (first .wp) (items h) started
+    pub span-open : (ss : List (Step Levels)) → AllNeither (wiresAt first answer) ss → items (followed sampleByte h first answer ss) ≡ span (clocksAfter (wiresAt first answer) ss) ∷ items h
+    span-open [] ns = edge-items h first answer ∙ start-noted (lastWires h) (wiresAt first answer) (first .wp) (items h) started
     span-open (sample l a ∷ ss) ns =
-        let q = wiresAfter begin ss in
-        edge-items (after ss) l a
+        let q = wiresSeen (wiresAt first answer) ss in
+        edge-items (followed sampleByte h first answer ss) l a
         ∙ rw (last-wires ss, span-open ss (ns .1))
-        (neither-noted (items h) (clocksAfter begin ss) (q .scl) (l .scl) (q .line) (wiresAt l a .line) (l .wp) (ns .0))
+        (neither-noted (items h) (clocksAfter (wiresAt first answer) ss) (q .scl) (l .scl) (q .line) (wiresAt l a .line) (l .wp) (ns .0))
     span-open (expected v a ∷ ss) ns = span-open ss ns
 
-    module _ (ss : List (Step Levels)) (ns : AllNeither begin ss) where
+    module _ (ss : List (Step Levels)) (ns : AllNeither (wiresAt first answer) ss) where
       -- the next START begins another span
-      pub span-start : (last : Levels) (a : ℕ) → Start (wiresAfter begin ss) (wiresAt last a)
-          → items (entryOf sampleByte (sample last a) ∷ after ss) ≡ span [] ∷ span (clocksAfter begin ss) ∷ items h
+      pub span-start : (last : Levels) (a : ℕ) → Start (wiresSeen (wiresAt first answer) ss) (wiresAt last a)
+          → items (entryOf sampleByte (sample last a) ∷ followed sampleByte h first answer ss) ≡ span [] ∷ span (clocksAfter (wiresAt first answer) ss) ∷ items h
       span-start last a s =
-          edge-items (after ss) last a
-          ∙ rw (last-wires ss, span-open ss ns) (start-noted (wiresAfter begin ss) (wiresAt last a) (last .wp) (span (clocksAfter begin ss) ∷ items h) s)
+          edge-items (followed sampleByte h first answer ss) last a
+          ∙ rw (last-wires ss, span-open ss ns) (start-noted (wiresSeen (wiresAt first answer) ss) (wiresAt last a) (last .wp) (span (clocksAfter (wiresAt first answer) ss) ∷ items h) s)
 
       -- a STOP ends it
-      pub span-stop : (last : Levels) (a : ℕ) → Stop (wiresAfter begin ss) (wiresAt last a)
-          → items (entryOf sampleByte (sample last a) ∷ after ss) ≡ idle ∷ span (clocksAfter begin ss) ∷ items h
+      pub span-stop : (last : Levels) (a : ℕ) → Stop (wiresSeen (wiresAt first answer) ss) (wiresAt last a)
+          → items (entryOf sampleByte (sample last a) ∷ followed sampleByte h first answer ss) ≡ idle ∷ span (clocksAfter (wiresAt first answer) ss) ∷ items h
       span-stop last a s =
-          edge-items (after ss) last a
-          ∙ rw (last-wires ss, span-open ss ns) (stop-noted (wiresAfter begin ss) (wiresAt last a) (last .wp) (span (clocksAfter begin ss) ∷ items h) s)
+          edge-items (followed sampleByte h first answer ss) last a
+          ∙ rw (last-wires ss, span-open ss ns) (stop-noted (wiresSeen (wiresAt first answer) ss) (wiresAt last a) (last .wp) (span (clocksAfter (wiresAt first answer) ss) ∷ items h) s)
 
       -- and so does power off
-      pub span-cut : (a : ℕ) → items (record { event = PowerOff; answer = a } ∷ after ss) ≡ idle ∷ span (clocksAfter begin ss) ∷ items h
+      pub span-cut : (a : ℕ) → items (record { event = PowerOff; answer = a } ∷ followed sampleByte h first answer ss) ≡ idle ∷ span (clocksAfter (wiresAt first answer) ss) ∷ items h
       span-cut a = rw (span-open ss ns)
 
     -- the last fall of SCL in it
-    pub fall-of : (ss : List (Step Levels)) → AllNeither begin ss → lastFall (after ss) ≡ lastFallAfter begin ss
-    fall-of [] ns = one-fall h first answer ∙ start-fall (lastWires h) begin (items h) (lastFall h) started
+    pub fall-of : (ss : List (Step Levels)) → AllNeither (wiresAt first answer) ss → lastFall (followed sampleByte h first answer ss) ≡ lastFallAfter (wiresAt first answer) ss
+    fall-of [] ns = one-fall h first answer ∙ start-fall (lastWires h) (wiresAt first answer) (items h) (lastFall h) started
     fall-of (sample l a ∷ ss) ns =
-        let q = wiresAfter begin ss in
-        one-fall (after ss) l a
+        let q = wiresSeen (wiresAt first answer) ss in
+        one-fall (followed sampleByte h first answer ss) l a
         ∙ rw (last-wires ss, span-open ss (ns .1), fall-of ss (ns .1))
-        (neither-fall (items h) (clocksAfter begin ss) (lastFallAfter begin ss) (q .scl) (l .scl) (q .line) (wiresAt l a .line) (ns .0))
+        (neither-fall (items h) (clocksAfter (wiresAt first answer) ss) (lastFallAfter (wiresAt first answer) ss) (q .scl) (l .scl) (q .line) (wiresAt l a .line) (ns .0))
     fall-of (expected v a ∷ ss) ns = fall-of ss ns

@@ -11,10 +11,10 @@ use Rattle.selection.specs.Edge.{clockEdge, edgeOf}
 use Rattle.selection.specs.Levels.{levelsOf}
 use Rattle.selection.proofs.LevelLaws.{levels-back}
 use Rattle.ledger.specs.History.{Entry}
-use Rattle.ledger.specs.Steps.{Step, sample, expected, entryOf, entered}
+use Rattle.ledger.specs.Steps.{Step, sample, expected, entryOf, followed}
 use Rattle.ledger.specs.SpiLedger.{unended, ended, Item, powerOff, selection, itemsOnEdge, lastSample, items, asleep}
 use Rattle.ledger.specs.SpiAnswers.{LastFall, noFall, afterRises, fallOn, lastFall}
-use Rattle.ledger.specs.Selections.{sampleByte, AllLow, levelsAfter, bitsAfter, lastFallAfter}
+use Rattle.ledger.specs.Selections.{sampleByte, AllSelected, levelsSeen, countedBits, lastFallAfter}
 
 -- a sample has the levels that its byte is made of
 levels-of : (l : Levels) → levelsOf (sampleByte l) ≡ l
@@ -52,16 +52,12 @@ clock-fall p is bs f true true true true x a = refl
 clock-fall p is bs f true true true false x a = rw a
 
 module _ (h : List Entry) (first : Levels) (answer : ℕ) where
-  -- the history in which a sample with the levels first is followed by the steps ss
-  abbrev after : List (Step Levels) → List Entry
-  after ss = entered sampleByte ss (entryOf sampleByte (sample first answer) ∷ h)
-
-  last-levels : (ss : List (Step Levels)) → lastSample (after ss) ≡ levelsAfter first ss
+  last-levels : (ss : List (Step Levels)) → lastSample (followed sampleByte h first answer ss) ≡ levelsSeen first ss
   last-levels [] = levels-of first
   last-levels (sample l a ∷ ss) = levels-of l
   last-levels (expected v a ∷ ss) = last-levels ss
 
-  low-after : (ss : List (Step Levels)) → first .cs ≡ false → AllLow ss → levelsAfter first ss .cs ≡ false
+  low-after : (ss : List (Step Levels)) → first .cs ≡ false → AllSelected ss → levelsSeen first ss .cs ≡ false
   low-after [] low lows = low
   low-after (sample l a ∷ ss) low lows = lows .0
   low-after (expected v a ∷ ss) low lows = low-after ss low lows
@@ -69,32 +65,32 @@ module _ (h : List Entry) (first : Levels) (answer : ℕ) where
   module _ (up : lastSample h .cs ≡ true) (low : first .cs ≡ false) where
     -- CS# has fallen between the last sample of h and first, and is 0 at all samples since: one selection, open, with the bits of the
     -- counted rises
-    pub selection-open : (ss : List (Step Levels)) → AllLow ss → items (after ss) ≡ selection (bitsAfter first ss) unended ∷ items h
+    pub selection-open : (ss : List (Step Levels)) → AllSelected ss → items (followed sampleByte h first answer ss) ≡ selection (countedBits first ss) unended ∷ items h
     selection-open [] lows = one-noted h first answer ∙ rw (up, low)
     selection-open (sample l a ∷ ss) lows =
-        let q = levelsAfter first ss in
-        one-noted (after ss) l a
+        let q = levelsSeen first ss in
+        one-noted (followed sampleByte h first answer ss) l a
         ∙ rw (last-levels ss, low-after ss low (lows .1), lows .0, selection-open ss (lows .1))
-        (clock-noted (items h) (bitsAfter first ss) (q .hold) (l .hold) (q .sck) (l .sck) (l .si) (l .wp))
+        (clock-noted (items h) (countedBits first ss) (q .hold) (l .hold) (q .sck) (l .sck) (l .si) (l .wp))
     selection-open (expected v a ∷ ss) lows = selection-open ss lows
 
-    module _ (ss : List (Step Levels)) (lows : AllLow ss) where
+    module _ (ss : List (Step Levels)) (lows : AllSelected ss) where
       -- and then it rises at a sample with the levels last: the selection has ended, with WP# at that sample
       pub selection-of : (last : Levels) (a : ℕ) → last .cs ≡ true
-          → items (entryOf sampleByte (sample last a) ∷ after ss) ≡ selection (bitsAfter first ss) (ended (last .wp)) ∷ items h
-      selection-of last a high = one-noted (after ss) last a ∙ rw (last-levels ss, low-after ss low lows, high, selection-open ss lows)
+          → items (entryOf sampleByte (sample last a) ∷ followed sampleByte h first answer ss) ≡ selection (countedBits first ss) (ended (last .wp)) ∷ items h
+      selection-of last a high = one-noted (followed sampleByte h first answer ss) last a ∙ rw (last-levels ss, low-after ss low lows, high, selection-open ss lows)
 
       -- or power is cut: the selection stays without an end
       pub selection-cut : (a : ℕ)
-          → items (record { event = PowerOff; answer = a } ∷ after ss) ≡ powerOff ∷ selection (bitsAfter first ss) unended ∷ items h
+          → items (record { event = PowerOff; answer = a } ∷ followed sampleByte h first answer ss) ≡ powerOff ∷ selection (countedBits first ss) unended ∷ items h
       selection-cut a = rw (selection-open ss lows)
 
     -- the last counted fall, in a selection that is not ignored
-    pub fall-of : (p : Part) → asleep p (items h) ≡ false → (ss : List (Step Levels)) → AllLow ss → lastFall p (after ss) ≡ lastFallAfter first ss
+    pub fall-of : (p : Part) → asleep p (items h) ≡ false → (ss : List (Step Levels)) → AllSelected ss → lastFall p (followed sampleByte h first answer ss) ≡ lastFallAfter first ss
     fall-of p awake [] lows = one-fall p h first answer ∙ rw (up, low)
     fall-of p awake (sample l a ∷ ss) lows =
-        let q = levelsAfter first ss in
-        one-fall p (after ss) l a
+        let q = levelsSeen first ss in
+        one-fall p (followed sampleByte h first answer ss) l a
         ∙ rw (last-levels ss, low-after ss low (lows .1), lows .0, selection-open ss (lows .1), fall-of p awake ss (lows .1))
-        (clock-fall p (items h) (bitsAfter first ss) (lastFallAfter first ss) (q .hold) (l .hold) (q .sck) (l .sck) (l .si) awake)
+        (clock-fall p (items h) (countedBits first ss) (lastFallAfter first ss) (q .hold) (l .hold) (q .sck) (l .sck) (l .si) awake)
     fall-of p awake (expected v a ∷ ss) lows = fall-of p awake ss lows

@@ -17,7 +17,7 @@ use Rattle.transfer.specs.declared.word.DeviceWord.the-variants.{ReadWord, Writ
 use Rattle.transfer.specs.Buffer.{addressOfBytes}
 use Rattle.transfer.specs.Word.{wordOf}
 use Rattle.ledger.specs.Bits.{numberAfter, number}
-use Rattle.ledger.specs.Word.{sameBit, sameBits, pin, drawnWord, wordIn, addressAfter}
+use Rattle.ledger.specs.Word.{sameBit, sameBits, pin, drawnWord, Wired, wordIn, addressAfter}
 
 -- ---- lists of bits by their numbers
 
@@ -55,10 +55,6 @@ pub same-number : (xs ys : List Bool) → length xs ≡ length ys → sameBits x
 same-number xs ys h = rw (and-true (sameBits xs ys)) at (same-after xs ys 0 0 h)
 
 -- ---- the words drawn
-
--- address pins that a word can draw
-abbrev pub Wired : Part → ℕ → Type 0
-Wired p pins = pins < cond (p .a16) 4 8
 
 bit-back : (x : ℕ) → bit (eqb (x % 2) 1) ≡ x % 2
 bit-back x = by (x % 2) (omega arith)

@@ -1,6 +1,7 @@
 -- What an I2C part answers, read off the accepted events by starts: it pulls while it acknowledges a byte and while it shows a 0 of
 -- a byte that it sends. Histories have the latest first.
 use Prim.Native.Nat.{ℕ}
+use mathlib.Core.Path.{_≡_}
 use mathlib.Core.Bool.{Bool, true, false, cond, not, _&&_}
 use mathlib.Core.List.{List, [], _∷_}
 use lib.Dec.{eqb, ltb}
@@ -75,6 +76,11 @@ showsLow v bs = ltb (length bs) 8 && not (bitAt v (length bs))
 abbrev pub sendsLow : Part → List ℕ → ℕ → List Byte → List Bool → Bool
 sendsLow p m a [] bs = showsLow (getD m a 0) bs
 sendsLow p m a (v ∷ vs) bs = cond (v .ninth) false (sendsLow p m (nextAddress (p .size) a) vs bs)
+
+-- the master acknowledged each of the bytes that went out, and so asked for the next one
+abbrev pub AllAcknowledged : List Byte → Type 0
+AllAcknowledged [] = Unit {0}
+AllAcknowledged (v ∷ vs) = (v .ninth ≡ false) × AllAcknowledged vs
 
 -- after a read word bytes go out; after a write word every byte is acknowledged; after another word nothing
 abbrev pub wordPulls : Part → List ℕ → AddressBuffer → DeviceWord → List Byte → List Bool → Bool

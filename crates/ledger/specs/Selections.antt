@@ -14,14 +14,14 @@ abbrev pub sampleByte : Levels → ℕ
 sampleByte l = bit (l .cs) + 2 * bit (l .sck) + 4 * bit (l .si) + 8 * bit (l .wp) + 16 * bit (l .hold)
 
 -- CS# is 0 at every sample
-abbrev pub AllLow : List (Step Levels) → Type 0
-AllLow [] = Unit {0}
-AllLow (sample l answer ∷ ss) = (l .cs ≡ false) × AllLow ss
-AllLow (expected value answer ∷ ss) = AllLow ss
+abbrev pub AllSelected : List (Step Levels) → Type 0
+AllSelected [] = Unit {0}
+AllSelected (sample l answer ∷ ss) = (l .cs ≡ false) × AllSelected ss
+AllSelected (expected value answer ∷ ss) = AllSelected ss
 
 -- the levels at the last sample, or those before, l
-abbrev pub levelsAfter : Levels → List (Step Levels) → Levels
-levelsAfter l ss = lastSeen (λ k answer. k) l ss
+abbrev pub levelsSeen : Levels → List (Step Levels) → Levels
+levelsSeen l ss = lastSeen (λ k answer. k) l ss
 
 -- between two samples with CS# 0: an edge of SCK counts if HOLD# is 1 in both
 abbrev pub rises : Levels → Levels → Bool
@@ -31,13 +31,13 @@ abbrev pub falls : Levels → Levels → Bool
 falls a b = a .hold && (b .hold && (a .sck && not (b .sck)))
 
 -- the bits of the counted rises after a sample with the levels l, the first first: SI at the sample in which SCK is 1
-abbrev pub bitsAfter : Levels → List (Step Levels) → List Bool
-bitsAfter l [] = []
-bitsAfter l (sample k answer ∷ ss) = bitsAfter l ss ++ cond (rises (levelsAfter l ss) k) (k .si ∷ []) []
-bitsAfter l (expected value answer ∷ ss) = bitsAfter l ss
+abbrev pub countedBits : Levels → List (Step Levels) → List Bool
+countedBits l [] = []
+countedBits l (sample k answer ∷ ss) = countedBits l ss ++ cond (rises (levelsSeen l ss) k) (k .si ∷ []) []
+countedBits l (expected value answer ∷ ss) = countedBits l ss
 
 -- the last counted fall after it, with the bits of the rises before that fall
 abbrev pub lastFallAfter : Levels → List (Step Levels) → LastFall
 lastFallAfter l [] = noFall
-lastFallAfter l (sample k answer ∷ ss) = cond (falls (levelsAfter l ss) k) (afterRises (bitsAfter l ss)) (lastFallAfter l ss)
+lastFallAfter l (sample k answer ∷ ss) = cond (falls (levelsSeen l ss) k) (afterRises (countedBits l ss)) (lastFallAfter l ss)
 lastFallAfter l (expected value answer ∷ ss) = lastFallAfter l ss

@@ -15,8 +15,8 @@ abbrev pub sampleByte : Levels → ℕ
 sampleByte l = bit (l .scl) + 2 * bit (l .sda) + 4 * bit (l .wp)
 
 -- SCL and the line at the last sample, or those before, w
-abbrev pub wiresAfter : Wires → List (Step Levels) → Wires
-wiresAfter w ss = lastSeen wiresAt w ss
+abbrev pub wiresSeen : Wires → List (Step Levels) → Wires
+wiresSeen w ss = lastSeen wiresAt w ss
 
 -- SCL is 1 in two samples, and the line goes from 1 to 0, or from 0 to 1
 pub record Start (a b : Wires) : Type 0 where
@@ -38,18 +38,18 @@ Neither a b = a .scl ≡ true → b .scl ≡ true → b .line ≡ a .line
 -- no START and no STOP among the steps, w being SCL and the line before
 abbrev pub AllNeither : Wires → List (Step Levels) → Type 0
 AllNeither w [] = Unit {0}
-AllNeither w (sample l answer ∷ ss) = Neither (wiresAfter w ss) (wiresAt l answer) × AllNeither w ss
+AllNeither w (sample l answer ∷ ss) = Neither (wiresSeen w ss) (wiresAt l answer) × AllNeither w ss
 AllNeither w (expected value answer ∷ ss) = AllNeither w ss
 
 -- the rises of SCL, the first first: the line and WP at the sample in which SCL is 1
 abbrev pub clocksAfter : Wires → List (Step Levels) → List Clock
 clocksAfter w [] = []
 clocksAfter w (sample l answer ∷ ss) =
-    clocksAfter w ss ++ cond (not (wiresAfter w ss .scl) && l .scl) (record { line = wiresAt l answer .line; wp = l .wp } ∷ []) []
+    clocksAfter w ss ++ cond (not (wiresSeen w ss .scl) && l .scl) (record { line = wiresAt l answer .line; wp = l .wp } ∷ []) []
 clocksAfter w (expected value answer ∷ ss) = clocksAfter w ss
 
 -- the last fall of SCL, with the rises before it
 abbrev pub lastFallAfter : Wires → List (Step Levels) → LastFall
 lastFallAfter w [] = noFall
-lastFallAfter w (sample l answer ∷ ss) = cond (wiresAfter w ss .scl && not (l .scl)) (afterRises (clocksAfter w ss)) (lastFallAfter w ss)
+lastFallAfter w (sample l answer ∷ ss) = cond (wiresSeen w ss .scl && not (l .scl)) (afterRises (clocksAfter w ss)) (lastFallAfter w ss)
 lastFallAfter w (expected value answer ∷ ss) = lastFallAfter w ss

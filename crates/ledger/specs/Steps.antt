@@ -19,6 +19,10 @@ module _ {Levels : Type 0} where
   abbrev pub entered : (Levels → ℕ) → List (Step Levels) → List Entry → List Entry
   entered byte ss h = map (entryOf byte) ss ++ h
 
+  -- a history in which a sample with the levels l is followed by these steps
+  abbrev pub followed : (Levels → ℕ) → List Entry → Levels → ℕ → List (Step Levels) → List Entry
+  followed byte h l answer ss = entered byte ss (entryOf byte (sample l answer) ∷ h)
+
   -- what is seen at the last sample, or what was seen before
   abbrev pub lastSeen : {A : Type 0} → (Levels → ℕ → A) → A → List (Step Levels) → A
   lastSeen see before [] = before

@@ -1,5 +1,5 @@
 -- The device address word of an I2C part and the address after it, by the bits that the sheets draw, most significant first.
-use Prim.Native.Nat.{ℕ, _/_, _%_, _^_}
+use Prim.Native.Nat.{ℕ, _/_, _%_, _^_, _<_}
 use mathlib.Core.Bool.{Bool, true, false, cond, not, _&&_}
 use mathlib.Core.List.{List, [], _∷_, _++_}
 use lib.Dec.{eqb}
@@ -26,6 +26,10 @@ pin pins i = eqb (pins / 2 ^ i % 2) 1
 abbrev pub drawnWord : Part → ℕ → Bool → Bool → List Bool
 drawnWord p pins a16 read =
     true ∷ false ∷ true ∷ false ∷ cond (p .a16) (pin pins 1 ∷ pin pins 0 ∷ a16 ∷ read ∷ []) (pin pins 2 ∷ pin pins 1 ∷ pin pins 0 ∷ read ∷ [])
+
+-- address pins that a word can draw: two of them beside A16, else three
+abbrev pub Wired : Part → ℕ → Type 0
+Wired p pins = pins < cond (p .a16) 4 8
 
 -- what the bits of a word say: they are one of the words drawn, with A16 at 0 or 1, or the word is not the part's
 abbrev pub wordIn : Part → ℕ → List Bool → DeviceWord

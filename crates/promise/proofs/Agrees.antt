@@ -38,7 +38,7 @@ use Rattle.ledger.specs.SpiLedger as SpiLedger
 use Rattle.ledger.specs.I2cLedger as I2cLedger
 use Rattle.ledger.proofs.SpiFits as SpiFits
 use Rattle.ledger.proofs.I2cFits as I2cFits
-use Rattle.ledger.proofs.WordLaws.{Wired}
+use Rattle.ledger.specs.Word.{Wired}
 use Rattle.promise.specs.Ledger.{savedIn, ledgerStores, ledgerBits}
 use Rattle.promise.proofs.Runs.{entered}
 

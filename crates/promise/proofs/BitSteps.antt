@@ -27,7 +27,7 @@ use Rattle.promise.specs.Lists.{Observed, observed, modelAfter, memoryAf
 use Rattle.promise.specs.Fed.{withEvent}
 use Rattle.promise.specs.Ledger.{savedIn, ledgerBits}
 use Rattle.promise.specs.Promise.{madeBy, historyOf}
-use Rattle.promise.specs.BitSteps.{BitsOldOrNew, old, written, zeroed}
+use Rattle.promise.specs.BitSteps.{BitsOldOrNew, old, written, zeroed, LedgerBits, ModelBits}
 use Rattle.promise.proofs.Ranges.{made-in, made-off}
 use Rattle.promise.proofs.Joins.{fed-join}
 use Rattle.promise.proofs.Steps.{list-bits}
@@ -122,9 +122,9 @@ module _ (part pins bits : ℕ) (first : List ℕ) (es : List (List ℕ)) (t : L
   abbrev made : Model
   made = madeBy part pins bits
 
-  pub bits-old-or-new : BitsOldOrNew (partOf (made .part)) (items (historyOf made first (es ++ (t ∷ []))))
+  ledger-step : BitsOldOrNew (partOf (made .part)) (items (historyOf made first (es ++ (t ∷ []))))
       (ledgerBits made (historyOf made first es)) (ledgerBits made (historyOf made first (es ++ (t ∷ []))))
-  bits-old-or-new = by (isSpi (partOf (made .part) .bus)) refl
+  ledger-step = by (isSpi (partOf (made .part) .bus)) refl
     where
       by : (y : Bool) → isSpi (partOf (made .part) .bus) ≡ y
           → BitsOldOrNew (partOf (made .part)) (items (historyOf made first (es ++ (t ∷ []))))
@@ -136,8 +136,14 @@ module _ (part pins bits : ℕ) (first : List ℕ) (es : List (List ℕ)) (t : L
       by false q = rw q (old refl)
 
   -- the same of the bits that the model holds, which are the ledger's after every list
-  pub model-bits-old-or-new : BitsOldOrNew (partOf (made .part)) (items (historyOf made first (es ++ (t ∷ []))))
+  model-step : BitsOldOrNew (partOf (made .part)) (items (historyOf made first (es ++ (t ∷ []))))
       (savedIn (modelAfter made first es .status)) (savedIn (modelAfter made first (es ++ (t ∷ [])) .status))
-  model-bits-old-or-new =
+  model-step =
       let same = list-bits made first (made-in part pins bits) (made-off part pins bits) in
-      rw (same es, same (es ++ (t ∷ []))) bits-old-or-new
+      rw (same es, same (es ++ (t ∷ []))) ledger-step
+
+pub bits-old-or-new : (part pins bits : ℕ) (first : List ℕ) → LedgerBits part pins bits first
+bits-old-or-new part pins bits first es t = ledger-step part pins bits first es t
+
+pub model-bits-old-or-new : (part pins bits : ℕ) (first : List ℕ) → ModelBits part pins bits first
+model-bits-old-or-new part pins bits first es t = model-step part pins bits first es t

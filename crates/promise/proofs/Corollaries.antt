@@ -30,7 +30,7 @@ use Rattle.promise.specs.Lists.{Observed, observed, modelAfter, memoryAf
 use Rattle.promise.specs.Fed.{withEvent}
 use Rattle.promise.specs.Ledger.{savedIn, ledgerStores}
 use Rattle.promise.specs.Promise.{madeBy, cut, thenCut, historyOf}
-use Rattle.promise.specs.Corollaries.{isWren, NoWren, OldOrNew, old, new}
+use Rattle.promise.specs.Corollaries.{isWren, NoWren, OldOrNew, old, new, memoryAfterList, writesOf, itemsOf, NoEnableNoStore, NoWrenNoStore, OneEnableOneWrite, OneByteAtMost, CutKeepsMemory, CutWithoutPower}
 use Rattle.promise.proofs.Ranges.{range-wired, made-in, made-off}
 use Rattle.promise.proofs.Stays.{accepted-sized, cut-memory, cut-refused}
 use Rattle.promise.proofs.Joins.{model-join, memory-join, fed-join}
@@ -102,62 +102,52 @@ by-write first ws ws′ (Byte a v) e h =
     new w (r .inside) (r .byte) (ap (stored first) e ∙ stored-append first ws _) e
 
 module _ (part pins bits : ℕ) (first : List ℕ) where
-  abbrev pub model : Model
+  abbrev model : Model
   model = madeBy part pins bits
 
-  abbrev pub row : Part
+  abbrev row : Part
   row = partOf (model .part)
 
-  -- memory, permitted writes, and on SPI the selections, after a list of events on a model just made
-  abbrev pub memoryAfterList : List (List ℕ) → List ℕ
-  memoryAfterList es = memoryAfter model first es
+  abbrev memoryOf : List (List ℕ) → List ℕ
+  memoryOf = memoryAfterList part pins bits first
 
-  abbrev pub writesOf : List (List ℕ) → List Store
-  writesOf es = ledgerStores model (historyOf model first es)
+  abbrev writes-of : List (List ℕ) → List Store
+  writes-of = writesOf part pins bits first
 
-  abbrev pub itemsOf : List (List ℕ) → List Item
-  itemsOf es = items (historyOf model first es)
+  abbrev items-of : List (List ℕ) → List Item
+  items-of = itemsOf part pins bits first
 
-  memory-stored : (es : List (List ℕ)) → memoryAfterList es ≡ stored first (writesOf es)
+  memory-stored : (es : List (List ℕ)) → memoryOf es ≡ stored first (writes-of es)
   memory-stored es = list-memory model first (made-in part pins bits) (made-off part pins bits) es
 
-  same-writes : (es ks : List (List ℕ)) → writesOf ks ≡ writesOf es → memoryAfterList ks ≡ memoryAfterList es
+  same-writes : (es ks : List (List ℕ)) → writes-of ks ≡ writes-of es → memoryOf ks ≡ memoryOf es
   same-writes es ks e = memory-stored ks ∙ ap (stored first) e ∙ sym (memory-stored es)
 
-  module _ (spi : isSpi (row .bus) ≡ true) (es ks : List (List ℕ)) where
-    -- after a list that leaves the enable off, further events that add one selection, whatever its bits, leave the memory as it was
-    pub no-enable-no-store : (bs : List Bool) (e : End) → enabled row (withoutIgnored row (itemsOf es)) ≡ false
-        → itemsOf (es ++ ks) ≡ selection bs e ∷ itemsOf es → memoryAfterList (es ++ ks) ≡ memoryAfterList es
-    no-enable-no-store bs e h q =
-        same-writes es (es ++ ks)
-        (rw (spi, q) (one-stores row (savedIn (model .status)) (asleep row (itemsOf es)) bs e (withoutIgnored row (itemsOf es)) h))
+  pub no-enable-no-store : NoEnableNoStore part pins bits first
+  no-enable-no-store spi es ks bs e h q =
+      same-writes es (es ++ ks)
+      (rw (spi, q) (one-stores row (savedIn (model .status)) (asleep row (items-of es)) bs e (withoutIgnored row (items-of es)) h))
 
-    -- and so do any number of selections, power offs and power ons, as long as none is a WREN
-    pub no-wren-no-store : (more : List Item) → enabled row (withoutIgnored row (itemsOf es)) ≡ false
-        → itemsOf (es ++ ks) ≡ more ++ itemsOf es → NoWren row more → memoryAfterList (es ++ ks) ≡ memoryAfterList es
-    no-wren-no-store more h q n =
-        same-writes es (es ++ ks) (rw (spi, q) (off-stores row (savedIn (model .status)) more (itemsOf es) n h))
+  pub no-wren-no-store : NoWrenNoStore part pins bits first
+  no-wren-no-store spi es ks more h q n =
+      same-writes es (es ++ ks) (rw (spi, q) (off-stores row (savedIn (model .status)) more (items-of es) n h))
 
-    -- after a list whose last selection was a WRITE with a whole data byte, not ignored and ended, nothing is stored until a WREN: a second
-    -- WRITE stores nothing
-    pub one-enable-one-write : (bs : List Bool) (wp : Bool) (is : List Item) (rest : List Bool) (v : ℕ) (vs : List ℕ) (more : List Item)
-        → itemsOf es ≡ selection bs (ended wp) ∷ is → asleep row is ≡ false → reading row bs ≡ command WRITE rest → dataBytes row rest ≡ v ∷ vs
-        → itemsOf (es ++ ks) ≡ more ++ itemsOf es → NoWren row more → memoryAfterList (es ++ ks) ≡ memoryAfterList es
-    one-enable-one-write bs wp is rest v vs more i a r d q n =
-        no-wren-no-store more (rw i (write-ends row (savedIn (model .status)) bs wp is rest v vs a r d)) q n
+  pub one-enable-one-write : OneEnableOneWrite part pins bits first
+  one-enable-one-write spi es ks bs wp is rest v vs more i a r d q n =
+      no-wren-no-store spi es ks more (rw i (write-ends row (savedIn (model .status)) bs wp is rest v vs a r d)) q n
 
   -- ---- one event more
 
   -- the memory has the part's size, where an event is accepted
-  writes-proper : (es : List (List ℕ)) → AllProper (row .size) (writesOf es)
+  writes-proper : (es : List (List ℕ)) → AllProper (row .size) (writes-of es)
   writes-proper es = ledger-proper model (part-fits (model .part) (model-in model (made-in part pins bits .0) .known) .positive) (historyOf model first es)
 
   module _ (es : List (List ℕ)) (t : List ℕ) where
     abbrev next : Observed
-    next = observed (eventOf (modelAfter model first es) (memoryAfterList es) t)
+    next = observed (eventOf (modelAfter model first es) (memoryOf es) t)
 
     -- the list with t, whose event is accepted (y) or not
-    writes-next : writesOf (es ++ (t ∷ []))
+    writes-next : writes-of (es ++ (t ∷ []))
         ≡ ledgerStores model (cond (eqb (next .number) 0) (withEvent (readOf row t) (next .answer) (historyOf model first es)) (historyOf model first es))
     writes-next = ap (ledgerStores model) (fed-join row es (t ∷ []) model first [])
 
@@ -168,35 +158,32 @@ module _ (part pins bits : ℕ) (first : List ℕ) where
     read-grows (Refused r) a h = (Nothing, sym (append-nil (ledgerStores model h)))
 
     -- an accepted event had a memory of the part's size
-    sized : eqb (next .number) 0 ≡ true → length (memoryAfterList es) ≡ row .size
+    sized : eqb (next .number) 0 ≡ true → length (memoryOf es) ≡ row .size
     sized e =
-        accepted-sized (modelAfter model first es) (memoryAfterList es) t e
+        accepted-sized (modelAfter model first es) (memoryOf es) t e
         ∙ ap (λ (n : ℕ). partOf n .size) (list-fits model first (made-in part pins bits) (made-off part pins bits) es .part-is)
 
-    -- for every list and one more event: memory and ledger are as before, or both got one byte at one address, the same
-    pub old-or-new : OldOrNew (memoryAfterList es) (memoryAfterList (es ++ (t ∷ []))) (writesOf es) (writesOf (es ++ (t ∷ [])))
-    old-or-new = by (eqb (next .number) 0) refl
+    one-byte : OldOrNew (memoryOf es) (memoryOf (es ++ (t ∷ []))) (writes-of es) (writes-of (es ++ (t ∷ [])))
+    one-byte = by (eqb (next .number) 0) refl
       where
-        by : (y : Bool) → eqb (next .number) 0 ≡ y → OldOrNew (memoryAfterList es) (memoryAfterList (es ++ (t ∷ []))) (writesOf es) (writesOf (es ++ (t ∷ [])))
+        by : (y : Bool) → eqb (next .number) 0 ≡ y → OldOrNew (memoryOf es) (memoryOf (es ++ (t ∷ []))) (writes-of es) (writes-of (es ++ (t ∷ [])))
         by true e =
-            let g : Grown (writesOf es) (writesOf (es ++ (t ∷ []))) =
+            let g : Grown (writes-of es) (writes-of (es ++ (t ∷ []))) =
             rw (writes-next, e) (read-grows (readOf row t) (next .answer) (historyOf model first es)) in
-            let n : AllProper (length (stored first (writesOf es))) (writesOf (es ++ (t ∷ []))) =
-            subst (λ (k : ℕ). AllProper k (writesOf (es ++ (t ∷ [])))) (sym (sized e) ∙ ap length (memory-stored es)) (writes-proper (es ++ (t ∷ []))) in
-            rw (memory-stored es, memory-stored (es ++ (t ∷ []))) (by-write first (writesOf es) (writesOf (es ++ (t ∷ []))) (g .0) (g .1) n)
+            let n : AllProper (length (stored first (writes-of es))) (writes-of (es ++ (t ∷ []))) =
+            subst (λ (k : ℕ). AllProper k (writes-of (es ++ (t ∷ [])))) (sym (sized e) ∙ ap length (memory-stored es)) (writes-proper (es ++ (t ∷ []))) in
+            rw (memory-stored es, memory-stored (es ++ (t ∷ []))) (by-write first (writes-of es) (writes-of (es ++ (t ∷ []))) (g .0) (g .1) n)
         by false e =
-            let q : writesOf (es ++ (t ∷ [])) ≡ writesOf es = writes-next ∙ rw e in
+            let q : writes-of (es ++ (t ∷ [])) ≡ writes-of es = writes-next ∙ rw e in
             old (same-writes es (es ++ (t ∷ [])) q) q
 
-  -- a cut changes no byte
-  pub cut-keeps-memory : (es : List (List ℕ)) → memoryAfterList (thenCut es) ≡ memoryAfterList es
-  cut-keeps-memory es = memory-join es (cut ∷ []) model first ∙ cut-memory (modelAfter model first es) (memoryAfterList es)
+  pub old-or-new : OneByteAtMost part pins bits first
+  old-or-new es t = one-byte es t
 
-  -- and without power it changes nothing: not the state, not the memory, not what the ledger was fed
-  pub cut-without-power : (es : List (List ℕ)) → modelAfter model first es .bus ≡ Unpowered
-      → (modelAfter model first (thenCut es) ≡ modelAfter model first es)
-      × (memoryAfterList (thenCut es) ≡ memoryAfterList es)
-      × (historyOf model first (thenCut es) ≡ historyOf model first es)
+  pub cut-keeps-memory : CutKeepsMemory part pins bits first
+  cut-keeps-memory es = memory-join es (cut ∷ []) model first ∙ cut-memory (modelAfter model first es) (memoryOf es)
+
+  pub cut-without-power : CutWithoutPower part pins bits first
   cut-without-power es e =
-      let r = cut-refused (modelAfter model first es) (memoryAfterList es) e in
+      let r = cut-refused (modelAfter model first es) (memoryOf es) e in
       (model-join es (cut ∷ []) model first ∙ r .1, cut-keeps-memory es, fed-join row es (cut ∷ []) model first [] ∙ rw (r .0))

@@ -33,7 +33,7 @@ use Rattle.ledger.specs.I2cLedger.{Clock, idle, span}
 use Rattle.ledger.specs.I2cLedger as I2cLedger
 use Rattle.ledger.proofs.Proper.{AllProper, spi-proper, i2c-proper}
 use Rattle.ledger.proofs.StoreLaws.{storesOf}
-use Rattle.ledger.proofs.WordLaws.{Wired}
+use Rattle.ledger.specs.Word.{Wired}
 use Rattle.ledger.proofs.SpiReads.{phaseAfter, no-stores, stores-snoc}
 use Rattle.ledger.proofs.I2cReads.{after, wrote-more, span-wrote}
 use Rattle.promise.specs.Ledger.{savedIn, ledgerStores}

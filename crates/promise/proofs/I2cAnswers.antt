@@ -27,7 +27,7 @@ use Rattle.chip.proofs.CheckLaws.{sound-in, i2c-ready}
 use Rattle.ledger.specs.History.{Entry}
 use Rattle.ledger.specs.I2cLedger.{Clock, wiresAt, edgeBetween, lastWires, items}
 use Rattle.ledger.specs.I2cAnswers.{bufferBefore, bufferOf, noFall, afterRises, lastFall, pulls, pullAnswer, presentAnswer}
-use Rattle.ledger.proofs.WordLaws.{Wired}
+use Rattle.ledger.specs.Word.{Wired}
 use Rattle.ledger.proofs.I2cAnswers.{Shows, buffer-is, carried-inside, pull-number, sample-shows, sample-answer, step-answer, power-shows}
 use Rattle.promise.specs.Lists.{modelAfter, memoryAfter}
 use Rattle.promise.specs.Promise.{historyOf}

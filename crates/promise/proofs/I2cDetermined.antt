@@ -8,12 +8,7 @@ use Rattle.parts.specs.declared.part.Part.{Part}
 use Rattle.trace.specs.declared.event.Event.{Event}
 use Rattle.ledger.specs.History.{Entry}
 use Rattle.ledger.specs.I2cAnswers.{pulls, pullAnswer, presentAnswer}
-use Rattle.promise.specs.I2cAnswers.{AllAnswered}
-
--- the events of a history, without their answers
-abbrev pub eventsOf : List Entry → List Event
-eventsOf [] = []
-eventsOf (e ∷ h) = e .event ∷ eventsOf h
+use Rattle.promise.specs.I2cAnswers.{AllAnswered, eventsOf, Determined}
 
 module _ (p : Part) (pins : ℕ) (first : List ℕ) where
   -- what an event answers after a history
@@ -23,7 +18,7 @@ module _ (p : Part) (pins : ℕ) (first : List ℕ) where
   same-entry : (e d : Entry) → e .event ≡ d .event → e .answer ≡ d .answer → e ≡ d
   same-entry e d q r = ap₂ (λ (x : Event) (a : ℕ). record { event = x; answer = a }) q r
 
-  pub answers-determined : (h k : List Entry) → AllAnswered p pins first h → AllAnswered p pins first k → eventsOf h ≡ eventsOf k → h ≡ k
+  pub answers-determined : Determined p pins first
   answers-determined [] [] a b q = refl
   answers-determined [] (d ∷ k) a b q = let y : _≡_ {A = ℕ} 0 1 = cc in absurd (omega arith)
   answers-determined (e ∷ h) [] a b q = let y : _≡_ {A = ℕ} 0 1 = cc in absurd (omega arith)

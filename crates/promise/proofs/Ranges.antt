@@ -27,7 +27,7 @@ use Rattle.events.proofs.Keeps.{keeps}
 use Rattle.model.specs.declared.make.Made.{Made}
 use Rattle.runs.specs.Event.{onRead, eventOnVerdict, eventOf}
 use Rattle.model.specs.Make.{statusOf, makeIn, makeOf}
-use Rattle.ledger.proofs.WordLaws.{Wired}
+use Rattle.ledger.specs.Word.{Wired}
 use Rattle.promise.specs.Lists.{modelAfter}
 
 -- neither number 1 nor number 2 is given

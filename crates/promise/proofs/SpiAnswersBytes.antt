@@ -22,7 +22,7 @@ use Rattle.ledger.specs.SpiAnswers.{memoryNow, registerNow}
 use Rattle.ledger.proofs.Proper.{stored-below, spi-proper}
 use Rattle.promise.specs.Ledger.{savedIn}
 use Rattle.promise.specs.Promise.{madeBy, historyOf}
-use Rattle.promise.specs.SpiBytes.{AllBytes, Clocked, byteOfBits, byteShown}
+use Rattle.promise.specs.SpiBytes.{AllBytes, byteOfBits, registerThen, memoryThen, RdsrBytes, ReadBytes}
 use Rattle.promise.proofs.Ranges.{made-in}
 use Rattle.promise.proofs.SpiAnswersShown.{rdsr-shows, read-shows}
 
@@ -69,32 +69,26 @@ module _ (part pins bits : ℕ) (first : List ℕ) where
   row = partOf (model .part)
 
   -- the ledger's memory holds bytes
-  now-below : AllBytes first → (es : List (List ℕ)) (a : ℕ) → getD (memoryNow row (savedIn (model .status)) first (historyOf model first es)) a 0 < 256
+  now-below : AllBytes first → (es : List (List ℕ)) (a : ℕ) → getD (memoryThen part pins bits first es) a 0 < 256
   now-below fits es a =
       let is = withoutIgnored row (items (historyOf model first es)) in
       let positive = part-fits (model .part) (model-in model (made-in part pins bits .0) .known) .positive in
       stored-below (row .size) first (writes row (savedIn (model .status)) is) fits (spi-proper row positive (savedIn (model .status)) is) a
 
-  module _ (spi : isSpi (row .bus) ≡ true) (es : List (List ℕ)) (bs : List Bool) (is : List Item) (c : Clocked part pins bits first es bs is)
-      (i : ℕ) where
-    -- after the opcode RDSR every byte is the ledger's status byte
-    pub rdsr-bytes : reading row bs ≡ command RDSR []
-        → byteShown part pins bits first es i ≡ statusByte (registerNow row (savedIn (model .status)) (historyOf model first es))
-    rdsr-bytes q =
-        let v : ℕ = statusByte (registerNow row (savedIn (model .status)) (historyOf model first es)) in
-        byte-same _ (λ k. v / 2 ^ (7 - k) % 2)
-        (λ k l. rdsr-shows part pins bits first spi es bs is c (8 * i + k) q .1 ∙ ap (λ (j : ℕ). v / 2 ^ (7 - j) % 2) (bit-of i k l))
-        ∙ eight-bits v
-        ∙ status-fits (registerNow row (savedIn (model .status)) (historyOf model first es))
+  pub rdsr-bytes : RdsrBytes part pins bits first
+  rdsr-bytes spi es bs is c i q =
+      let v : ℕ = statusByte (registerThen part pins bits first es) in
+      byte-same _ (λ k. v / 2 ^ (7 - k) % 2)
+      (λ k l. rdsr-shows part pins bits first spi es bs is c (8 * i + k) q .1 ∙ ap (λ (j : ℕ). v / 2 ^ (7 - j) % 2) (bit-of i k l))
+      ∙ eight-bits v
+      ∙ status-fits (registerThen part pins bits first es)
 
-    -- after READ and its address byte number i is the ledger's at the address and i further, modulo the size
-    pub read-bytes : AllBytes first → (address : List Bool) → length address ≡ row .width → reading row bs ≡ command READ address
-        → byteShown part pins bits first es i ≡ getD (memoryNow row (savedIn (model .status)) first (historyOf model first es)) ((number address + i) % row .size) 0
-    read-bytes fits address w q =
-        let m : List ℕ = memoryNow row (savedIn (model .status)) first (historyOf model first es) in
-        let v : ℕ = getD m ((number address + i) % row .size) 0 in
-        let bitOf : ℕ → ℕ → ℕ = λ n j. getD m ((number address + n) % row .size) 0 / 2 ^ (7 - j) % 2 in
-        byte-same _ (λ k. v / 2 ^ (7 - k) % 2)
-        (λ k l. read-shows part pins bits first spi es bs is c (8 * i + k) address w q .1 ∙ ap₂ bitOf (byte-of i k l) (bit-of i k l))
-        ∙ eight-bits v
-        ∙ mod-eq-of-lt (now-below fits es ((number address + i) % row .size))
+  pub read-bytes : ReadBytes part pins bits first
+  read-bytes spi es bs is c i fits address w q =
+      let m : List ℕ = memoryThen part pins bits first es in
+      let v : ℕ = getD m ((number address + i) % row .size) 0 in
+      let bitOf : ℕ → ℕ → ℕ = λ n j. getD m ((number address + n) % row .size) 0 / 2 ^ (7 - j) % 2 in
+      byte-same _ (λ k. v / 2 ^ (7 - k) % 2)
+      (λ k l. read-shows part pins bits first spi es bs is c (8 * i + k) address w q .1 ∙ ap₂ bitOf (byte-of i k l) (bit-of i k l))
+      ∙ eight-bits v
+      ∙ mod-eq-of-lt (now-below fits es ((number address + i) % row .size))

@@ -37,7 +37,7 @@ use Rattle.promise.specs.Lists.{Observed, modelAfter, memoryAfter}
 use Rattle.promise.specs.Ledger.{savedIn}
 use Rattle.promise.specs.Promise.{madeBy, historyOf}
 use Rattle.promise.specs.SpiAnswers.{observedAfter}
-use Rattle.promise.specs.SpiBytes.{sample, fall, rise, clocks, Clocked}
+use Rattle.promise.specs.SpiBytes.{sample, fall, rise, clocks, Clocked, atFall, RdsrShows, ReadShows}
 use Rattle.promise.proofs.Ranges.{made-in, made-off}
 use Rattle.promise.proofs.Agrees.{AgreesOn}
 use Rattle.promise.proofs.Steps.{Tested}
@@ -142,34 +142,35 @@ module _ (part pins bits : ℕ) (first : List ℕ) where
         rw (← append-assoc es, ← append-assoc bs) d
 
     module _ (es : List (List ℕ)) (bs : List Bool) (is : List Item) (c : Clocked part pins bits first es bs is) (n : ℕ) where
-      -- what the fall after n clocks shows
-      abbrev pub atFall : Observed
-      atFall = observedAfter model first (es ++ clocks n) fall
-
-      fall-taken : atFall .number ≡ 0
+      fall-taken : atFall part pins bits first es n .number ≡ 0
       fall-taken = taken (es ++ clocks n) (more-clocks n es bs is c .selected) 24 (omega arith)
 
       -- the register does not change in an open selection
       register-same : registerNow row made (history (es ++ clocks n)) ≡ registerNow row made (history es)
       register-same = rw (more-clocks n es bs is c .opened, c .opened, c .awake)
 
-      -- after the opcode RDSR: bit 7 - (n mod 8) of the ledger's status byte
-      pub rdsr-shows : reading row bs ≡ command RDSR []
-          → (atFall .number ≡ 0) × (atFall .answer ≡ statusByte (registerNow row made (history es)) / 2 ^ (7 - n % 8) % 2)
-      rdsr-shows q =
+      rdsr-bit : reading row bs ≡ command RDSR []
+          → (atFall part pins bits first es n .number ≡ 0)
+          × (atFall part pins bits first es n .answer ≡ statusByte (registerNow row made (history es)) / 2 ^ (7 - n % 8) % 2)
+      rdsr-bit q =
           let a = fall-answer (es ++ clocks n) (bs ++ zeros n) is (more-clocks n es bs is c) in
           let r = reading-more row bs RDSR [] (zeros n) q in
           let shown : Status → ℕ → ℕ = λ x k. statusByte x / 2 ^ (7 - k % 8) % 2 in
           (fall-taken, a ∙ rdsr-shown row _ _ (bs ++ zeros n) (zeros n) r ∙ ap₂ shown register-same (length-zeros n))
 
-      -- after READ and its address: bit 7 - (n mod 8) of the ledger's byte n div 8 addresses further, modulo the size
-      pub read-shows : (address : List Bool) → length address ≡ row .width → reading row bs ≡ command READ address
-          → (atFall .number ≡ 0)
-          × (atFall .answer ≡ getD (memoryNow row made first (history es)) ((number address + n / 8) % row .size) 0 / 2 ^ (7 - n % 8) % 2)
-      read-shows address w q =
+      read-bit : (address : List Bool) → length address ≡ row .width → reading row bs ≡ command READ address
+          → (atFall part pins bits first es n .number ≡ 0)
+          × (atFall part pins bits first es n .answer ≡ getD (memoryNow row made first (history es)) ((number address + n / 8) % row .size) 0 / 2 ^ (7 - n % 8) % 2)
+      read-bit address w q =
           let d = more-clocks n es bs is c in
           let a = fall-answer (es ++ clocks n) (bs ++ zeros n) is d in
           let r = reading-more row bs READ address (zeros n) q in
           let same : memoryNow row made first (history (es ++ clocks n)) ≡ memoryNow row made first (history es) =
           rw (d .opened, c .opened, c .awake, r, q) in
           (fall-taken, a ∙ read-shown row _ _ (bs ++ zeros n) address (zeros n) w r ∙ rw (same, length-zeros n))
+
+  pub rdsr-shows : RdsrShows part pins bits first
+  rdsr-shows spi es bs is c n q = rdsr-bit spi es bs is c n q
+
+  pub read-shows : ReadShows part pins bits first
+  read-shows spi es bs is c n address w q = read-bit spi es bs is c n address w q
