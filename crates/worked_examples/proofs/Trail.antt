@@ -7,7 +7,7 @@ use mathlib.Core.List.{List, [], _∷_, _++_}
 use lib.Dec.{eqb, ltb}
 use lib.ListN.{length, drop, getD, set, length-set, List·getD-eq-default}
 use lib.Seq.{getD-set-same, getD-set-other}
-use borrow.Author.Tests.{eqb-true, eqb-false, ltb-true, ltb-false}
+use borrow.Author.Tests.{eqb-true, eqb-false, eq-eqb, ne-eqb, ltb-true, ltb-false}
 use Rattle.parts.specs.declared.answer.Answer.{Answer}
 use Rattle.parts.specs.declared.part.Part.{Part}
 use Rattle.parts.specs.declared.status.Status.{Status}
@@ -56,6 +56,7 @@ use Rattle.runs.specs.Event as Events
 use Rattle.runs.specs.Event.{eventOf}
 use Rattle.runs.specs.Run as Runs
 use Rattle.runs.specs.Run.{Run, stop, after, loopOf, runOf}
+use Rattle.runs.proofs.RunLaws.{taken, Stops, at-quota, at-end, at-refusal, loop-induction}
 use Rattle.worked_examples.specs.Cases.{Cell, cell, withCells}
 
 -- ---- bytes by address
@@ -325,33 +326,32 @@ after-by : (a n : ℕ) (m : List ℕ) (w : Write) (r : Trail) → after a n (run
 after-by a n m Nothing r = refl
 after-by a n m (Byte i v) r = refl
 
--- one turn of the loop by what its event gives
-abbrev turn : ℕ → List ℕ → Model → List ℕ → Outcome → Run
-turn quota t s m o =
-    cond (eqb (length t) 0) (stop 0 s m)
-    (cond (eqb (o .result .number) 0)
-    (after (o .result .answer) (eventLength (getD t 0 0)) (loopOf quota (drop (eventLength (getD t 0 0)) t) (o .result .model) (o .memory)))
-    (stop (o .result .number) s m))
+-- the run r, on a memory with the bytes f
+abbrev By : ℕ → List ℕ → Model → List ℕ → Run → Type 0
+By quota t s m r = (size : ℕ) (f : ℕ → ℕ) → length m ≡ size → Reads m f → r ≡ runFrom m (loopBy quota size t s f)
 
--- by its two tests: the trace is empty, the event is accepted
-turn-by : (x y : Bool) (s : Model) (m : List ℕ) (d : Done) (n : ℕ) (go : Run) (gone : Trail) → go ≡ runFrom (applied (d .write) m) gone
-    → cond x (stop 0 s m) (cond y (after (d .result .answer) n go) (stop (d .result .number) s m))
-    ≡ runFrom m (cond x (stopBy 0 s) (cond y (afterBy (d .result .answer) n (d .write) gone) (stopBy (d .result .number) s)))
-turn-by true y s m d n go gone q = refl
-turn-by false false s m d n go gone q = refl
-turn-by false true s m d n go gone q = ap (after (d .result .answer) n) q ∙ after-by (d .result .answer) n m (d .write) gone
+stops-by : (quota n : ℕ) (t : List ℕ) (s : Model) (m : List ℕ) → Stops t s m quota n → By quota t s m (stop n s m)
+unfolding loopBy
+stops-by quota n t s m at-quota size f e h = refl
+stops-by quota n t s m (at-end z) size f e h = rw (eq-eqb _ _ z)
+stops-by quota n t s m (at-refusal some not-0) size f e h =
+    let v = event-by m f h size s t e in
+    rw (v, ne-eqb _ _ some, ne-eqb _ _ (rw v at not-0))
+
+goes-on-by : (quota : ℕ) (t : List ℕ) (s : Model) (m : List ℕ) → (length t ≡ 0 → ⊥) → eventOf s m t .result .number ≡ 0 → (r : Run)
+    → By quota (drop (taken t) t) (eventOf s m t .result .model) (eventOf s m t .memory) r
+    → By (suc quota) t s m (after (eventOf s m t .result .answer) (taken t) r)
+unfolding loopBy
+goes-on-by quota t s m some none r k size f e h =
+    let v = event-by m f h size s t e in
+    let d : Done = eventBy size s f t in
+    let next = (rw v at k) size (updated size (d .write) f) (write-length size m e (d .write)) (write-reads size m f e h (d .write)) in
+    rw (v, ne-eqb _ _ some, eq-eqb _ _ (rw v at none))
+    (ap (after (d .result .answer) (taken t)) next ∙ after-by (d .result .answer) (taken t) m (d .write) _)
 
 loop-by : (quota size : ℕ) (t : List ℕ) (s : Model) (m : List ℕ) (f : ℕ → ℕ) → length m ≡ size → Reads m f
     → loopOf quota t s m ≡ runFrom m (loopBy quota size t s f)
-unfolding loopOf loopBy
-loop-by zero size t s m f e h = refl
-loop-by (suc quota) size t s m f e h =
-    let d : Done = eventBy size s f t in
-    let n : ℕ = eventLength (getD t 0 0) in
-    ap (turn quota t s m) (event-by m f h size s t e)
-    ∙ turn-by (eqb (length t) 0) (eqb (d .result .number) 0) s m d n _ _
-    (loop-by quota size (drop n t) (d .result .model) (applied (d .write) m) (updated size (d .write) f)
-    (write-length size m e (d .write)) (write-reads size m f e h (d .write)))
+loop-by quota size t s m f e h = loop-induction By stops-by goes-on-by quota t s m size f e h
 
 pub run-by : (quota size : ℕ) (t : List ℕ) (s : Model) (m : List ℕ) (f : ℕ → ℕ) → length m ≡ size → Reads m f
     → runOf quota t s m ≡ runFrom m (runBy quota size t s f)
