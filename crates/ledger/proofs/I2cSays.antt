@@ -4,11 +4,14 @@ use Prim.Native.Nat.{ℕ}
 use mathlib.Core.Path.{_≡_, refl}
 use mathlib.Core.Bool.{Bool, true, false}
 use mathlib.Core.List.{List, [], _∷_}
+use native.Mathlib.Omega.{arith}
 use Rattle.parts.specs.declared.part.Part.{Part}
 use Rattle.trace.specs.declared.event.Event.the-variants.{I2cPowerOn, PowerOff, Sample, Expected}
 use Rattle.transfer.specs.declared.buffer.AddressBuffer.{AddressBuffer}
 use Rattle.transfer.specs.declared.edge.Edge.the-variants.{Start, Stop, Fall}
 use Rattle.transfer.specs.declared.word.DeviceWord.the-variants.{WriteWord, OtherWord}
+use Rattle.transfer.specs.declared.levels.Levels.{Levels}
+use Rattle.transfer.specs.Edge.{edgeOn, edgeOf}
 use Rattle.transfer.specs.Levels.{levelsOf}
 use Rattle.i2c.specs.Pull.{ours}
 use Rattle.ledger.specs.Word.{wordIn}
@@ -21,14 +24,14 @@ module _ (p : Part) (pins : ℕ) (first : List ℕ) (h : List Entry) where
   abbrev to : Entry → ℕ
   to e = i2cAnswer p pins first (e ∷ h)
 
-  -- power on and power off answer 2
+  -- nothing is driven at either power event
   pub power-on-two : (x a answer : ℕ) → to (record { event = I2cPowerOn x a; answer = answer }) ≡ 2
   power-on-two x a answer = refl
 
   pub power-off-two : (answer : ℕ) → to (record { event = PowerOff; answer = answer }) ≡ 2
   power-off-two answer = refl
 
-  -- an expected answer is compared with the present answer, which it returns
+  -- an expected answer is answered as the event before it was
   pub expected-present : (v answer : ℕ) → to (record { event = Expected v; answer = answer }) ≡ pullAnswer (pulls p pins first h)
   expected-present v answer = refl
 
@@ -46,6 +49,16 @@ module _ (p : Part) (pins : ℕ) (first : List ℕ) (h : List Entry) where
       → to (record { event = Sample x; answer = answer })
       ≡ pullAnswer (pullsSince p pins (memoryNow p pins first h) (bufferBefore p pins h) (fallIn (items h)))
   fall-pulls x answer e = rw e
+
+-- while the part pulls the line is low at both samples: START and STOP find it released
+pub no-turn-pulled : (a b : Levels) → (edgeOf true a b ≡ Start → ⊥) × (edgeOf true a b ≡ Stop → ⊥)
+no-turn-pulled a b = by (a .scl) (b .scl)
+  where
+    by : (x y : Bool) → (edgeOn x y false false ≡ Start → ⊥) × (edgeOn x y false false ≡ Stop → ⊥)
+    by true true = (λ q. let z : _≡_ {A = ℕ} 0 1 = cc in omega arith, λ q. let z : _≡_ {A = ℕ} 0 1 = cc in omega arith)
+    by true false = (λ q. let z : _≡_ {A = ℕ} 0 1 = cc in omega arith, λ q. let z : _≡_ {A = ℕ} 0 1 = cc in omega arith)
+    by false true = (λ q. let z : _≡_ {A = ℕ} 0 1 = cc in omega arith, λ q. let z : _≡_ {A = ℕ} 0 1 = cc in omega arith)
+    by false false = (λ q. let z : _≡_ {A = ℕ} 0 1 = cc in omega arith, λ q. let z : _≡_ {A = ℕ} 0 1 = cc in omega arith)
 
 -- after the rises ks of a span
 module _ (p : Part) (pins : ℕ) (m : List ℕ) (b : AddressBuffer) (ks : List Clock) where

@@ -1,6 +1,6 @@
--- In every history a span runs from a START to the next START, STOP or power off, and has exactly the rises of SCL between, each with
--- the line and WP at its sample; START, STOP, rises and falls are said by SCL, SDA and the answers. By induction on the steps.
--- Assumes nothing.
+-- In every history a span begins at a START, ends at whichever comes first of another START, a STOP and a power off, and has
+-- exactly the rises of SCL between, each with the line and WP at its sample; START, STOP, rises and falls are said by SCL, SDA and
+-- the answers. By induction on the steps. Assumes nothing.
 use Prim.Native.Nat.{ℕ}
 use mathlib.Core.Path.{_≡_, refl, ap, _∙_}
 use mathlib.Core.Bool.{Bool, true, false, cond, not, _&&_}

@@ -65,12 +65,12 @@ module _ (m : List ℕ) where
   unfolding commandOf
   wren-rdsr = refl
 
-  -- 9: RDID on part 0: answer 2 throughout
+  -- 9: part 0 lacks RDID, and drives nothing in its selection
   no-identity : out 8 mr45v032a m (opening powered (0x9f ∷ [])) ≡ eightNothing
   unfolding commandOf
   no-identity = refl
 
-  -- 12: part 2 RDID: AE 83 1A, then nothing
+  -- 12: the identity of part 2, AE 83 1A, and nothing after it
   identity : out 32 mr45v200b m (opening powered (0x9f ∷ [])) ≡ eight 0xae ++ (eight 0x83 ++ (eight 0x1a ++ eightNothing))
   unfolding commandOf
   identity = refl

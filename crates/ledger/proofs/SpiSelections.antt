@@ -1,5 +1,6 @@
--- In every history a selection runs from CS# falling to CS# rising or to power off, and holds exactly the bits of the counted rises
--- between, which are said by the levels of the pins; so is the last counted fall. By induction on the steps. Assumes nothing.
+-- In every history a selection begins where CS# falls, ends where CS# rises or power goes, and holds exactly the bits of the
+-- counted rises between, which are said by the levels of the pins; so is the last counted fall. By induction on the steps. Assumes
+-- nothing.
 use Prim.Native.Nat.{ℕ}
 use mathlib.Core.Path.{_≡_, refl, ap, _∙_}
 use mathlib.Core.Bool.{Bool, true, false, cond, not, _&&_}

@@ -1,5 +1,5 @@
--- Sentences of document 01 on answers, one by one, of the answer that a history gives: power on and power off answer 2, an expected
--- answer changes nothing, held or unselected the answer is 2, and after a hold the earlier bit is shown again. Assumes nothing.
+-- The sentences on answers, one by one, of the answer that a history gives: nothing is driven at power events nor by a part that is
+-- held or unselected, an expected answer changes nothing, and what was shown before a hold is shown after it. Assumes nothing.
 use Prim.Native.Nat.{ℕ}
 use mathlib.Core.Path.{_≡_, refl}
 use mathlib.Core.Bool.{true, false}
@@ -25,7 +25,7 @@ module _ (p : Part) (made : SavedBits) (first : List ℕ) (h : List Entry) (a : 
   pub off-answers : answer (record { event = PowerOff; answer = a } ∷ h) ≡ 2
   off-answers = refl
 
-  -- an expected answer is compared with the present answer, which it returns
+  -- an expected answer is answered as the event before it was
   pub expected-answers : (v : ℕ) → answer (record { event = Expected v; answer = a } ∷ h) ≡ answer h
   expected-answers v = refl
 

@@ -1,5 +1,5 @@
--- What SO shows after the bits of a selection is what the ledger reads in them: bit 7 - ((n - h) mod 8) of byte number (n - h) div 8
--- of the command, n being the number of bits. For every part that fits, by the fields of a command. Assumes nothing.
+-- What SO shows after the bits of a selection is what the ledger reads in them: the bit that their number less h picks out of the
+-- bytes of the command. For every part that fits, by the fields of a command. Assumes nothing.
 use Prim.Native.Nat.{ℕ, zero, suc, _+_, _-_, _/_, _%_, _<_}
 use mathlib.Core.Path.{_≡_, refl, sym, _∙_}
 use mathlib.Core.Bool.{Bool, true, false, cond, false≢true}

@@ -1,5 +1,6 @@
--- What a source comes to when a selection's bits go on: an address goes up and rolls over, the status repeats, the identity ends
--- after three bytes; and bit 7 - k of its bytes is the answer. For every part with a positive size. Assumes nothing.
+-- What a source comes to when a selection's bits go on: the next address, which is 0 after the top, the same status again, an
+-- identity that ends with its third byte; and the answer is bit 7 - k of its byte. For every part with a positive size. Assumes
+-- nothing.
 use Prim.Native.Nat.{ℕ, zero, suc, _+_, _-_, _/_, _%_, _<_}
 use mathlib.Core.Path.{_≡_, refl, sym, ap, _∙_}
 use mathlib.Core.Bool.{Bool, true, false, cond}
@@ -48,7 +49,7 @@ module _ (p : Part) (positive : 0 < p .size) where
   further zero s = s
   further (suc i) s = further i (nextSource p s)
 
-  -- an address goes up and rolls over
+  -- the next address, and 0 after the top
   pub rolled : (i a : ℕ) → a < p .size → further i (Memory a) ≡ Memory ((a + i) % p .size)
   rolled zero a h = ap Memory (sym (ap (λ (x : ℕ). x % p .size) (omega arith) ∙ mod-eq-of-lt h))
   rolled (suc i) a h =

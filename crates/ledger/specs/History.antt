@@ -1,4 +1,4 @@
--- What the ledger is fed: the accepted events (number 0) with their answers.
+-- What the ledger is made from: each accepted event beside its answer.
 use Prim.Native.Nat.{ℕ}
 use Rattle.trace.specs.declared.event.Event.{Event}
 

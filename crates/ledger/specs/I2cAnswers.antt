@@ -32,21 +32,21 @@ unusedAt a = record { address = a; used = false }
 abbrev pub usedAt : ℕ → AddressBuffer
 usedAt a = record { address = a; used = true }
 
--- data bytes that come in from address a on: each one, stored or dropped, makes it "its address, used"; the address goes up and
--- rolls over
+-- data bytes that come in from address a on: after each the buffer holds the address of that byte as used, whether the byte was
+-- stored or dropped
 abbrev pub takenBuffer : Part → AddressBuffer → ℕ → List Byte → AddressBuffer
 takenBuffer p b a [] = b
 takenBuffer p b a (v ∷ vs) = takenBuffer p (usedAt a) (nextAddress (p .size) a) vs
 
--- after a write word two address bytes, of which the second makes it "n, unused", then data
+-- after a write word: the second address byte sets the buffer, unused, and data bytes follow
 abbrev pub writtenBuffer : Part → AddressBuffer → Bool → List Byte → AddressBuffer
 writtenBuffer p b a16 [] = b
 writtenBuffer p b a16 (high ∷ []) = b
 writtenBuffer p b a16 (high ∷ low ∷ vs) =
     takenBuffer p (unusedAt (addressAfter p a16 (high .bits) (low .bits))) (addressAfter p a16 (high .bits) (low .bits)) vs
 
--- bytes that go out from address a on: each one makes it "its address, used"; a low at the ninth rise asks for the next byte, high
--- ends the transfer
+-- bytes that go out from address a on: after each the buffer holds its address as used; the first that the master does not
+-- acknowledge is the last
 abbrev pub sentBuffer : Part → AddressBuffer → ℕ → List Byte → AddressBuffer
 sentBuffer p b a [] = b
 sentBuffer p b a (v ∷ vs) = cond (v .ninth) (usedAt a) (sentBuffer p (usedAt a) (nextAddress (p .size) a) vs)
@@ -135,7 +135,7 @@ fallIn [] = noFall
 fallIn (idle ∷ is) = noFall
 fallIn (span ks ∷ is) = afterRises ks
 
--- the part's pull changes on SCL falls; START and STOP release the line
+-- a fall of SCL decides the pull anew; START and STOP end it
 abbrev pub fallOn : Edge → List Item → LastFall → LastFall
 fallOn Start is f = noFall
 fallOn Stop is f = noFall

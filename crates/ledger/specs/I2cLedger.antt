@@ -28,7 +28,8 @@ pub record Clock : Type 0 where
   pub line : Bool
   pub wp : Bool
 
--- from a START to the next START, STOP or power off, with its rises; and a time after a STOP, a power off or a power on
+-- a span, which a START begins and a START, a STOP or a power off ends, with its rises of SCL; and the time in which no span is
+-- open
 pub data Item : Type 0 where
   idle : Item
   span : List Clock → Item
@@ -50,7 +51,7 @@ pub record Wires : Type 0 where
   pub scl : Bool
   pub line : Bool
 
--- the line is low at a sample with SDA 0 or answer 0
+-- the line is high only if others leave SDA high and the part does not answer 0
 abbrev pub wiresAt : Levels → ℕ → Wires
 wiresAt l answer = record { scl = l .scl; line = l .sda && not (eqb answer 0) }
 
@@ -68,7 +69,7 @@ wiresAfter (Expected v) answer w = w
 abbrev pub edgeBetween : Wires → Wires → Edge
 edgeBetween a b = edgeOn (a .scl) (b .scl) (a .line) (b .line)
 
--- a power on is no START and no STOP
+-- at power on no span is open, whatever the line does
 abbrev pub itemsAfter : Event → ℕ → Wires → List Item → List Item
 itemsAfter (SpiPowerOn x) answer w is = is
 itemsAfter (I2cPowerOn x a) answer w is = idle ∷ is
@@ -103,7 +104,7 @@ lineAt k = k .line
 abbrev pub nineRises : Group Clock → Byte
 nineRises g = record { bits = map lineAt (g .front); ninth = g .last .line; wp = g .last .wp }
 
--- bits are the lines at SCL rises, nine to a byte, whole at the ninth
+-- the rises of a span by nines: eight bits and the acknowledge
 abbrev pub risesIn : List Clock → Groups Clock
 risesIn ks = groups 8 ks
 
@@ -114,12 +115,13 @@ bytes ks = map nineRises (risesIn ks .whole)
 abbrev pub unfinished : List Clock → List Bool
 unfinished ks = map lineAt (risesIn ks .left)
 
--- each whole data byte goes to its address, up by one each time and rolled over, and is permitted if WP is 0 at its ninth rise
+-- data bytes from address a on, each one address further and at 0 after the top: a permitted write is one whose ninth rise has WP
+-- low
 abbrev pub placed : Part → ℕ → List Byte → List Store
 placed p a [] = []
 placed p a (v ∷ vs) = cond (v .wp) (placed p (nextAddress (p .size) a) vs) (record { address = a; value = value v } ∷ placed p (nextAddress (p .size) a) vs)
 
--- after the part's write word two address bytes and data follow
+-- after the part's own write word: two bytes make the address, and the rest is data
 abbrev pub written : Part → Bool → List Byte → List Store
 written p a16 [] = []
 written p a16 (high ∷ []) = []

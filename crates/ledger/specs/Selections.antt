@@ -9,7 +9,7 @@ use Rattle.selection.specs.declared.levels.Levels.{Levels}
 use Rattle.ledger.specs.Steps.{Step, sample, expected, lastSeen}
 use Rattle.ledger.specs.SpiAnswers.{LastFall, noFall, afterRises}
 
--- bit 0 is CS#, 1 SCK, 2 SI, 3 WP#, 4 HOLD#
+-- the byte of a sample: CS# is its lowest bit, then come SCK, SI, WP# and HOLD#
 abbrev pub sampleByte : Levels → ℕ
 sampleByte l = bit (l .cs) + 2 * bit (l .sck) + 4 * bit (l .si) + 8 * bit (l .wp) + 16 * bit (l .hold)
 

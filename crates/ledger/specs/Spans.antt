@@ -10,7 +10,7 @@ use Rattle.ledger.specs.Steps.{Step, sample, expected, lastSeen}
 use Rattle.ledger.specs.I2cLedger.{Clock, Wires, wiresAt}
 use Rattle.ledger.specs.I2cAnswers.{LastFall, noFall, afterRises}
 
--- bit 0 is SCL, 1 SDA as others drive it, 2 WP
+-- the byte of a sample: SCL is its lowest bit, then come SDA without the part's own pull, and WP
 abbrev pub sampleByte : Levels → ℕ
 sampleByte l = bit (l .scl) + 2 * bit (l .sda) + 4 * bit (l .wp)
 

@@ -65,8 +65,8 @@ pub data Output : Type 0 where
   nothing : Output
   byte : ℕ → Output
 
--- h: 8 for RDSR and RDID; 8 + address bits for READ; 8 more for FSTRD, which makes 40 on part 1, the one part that has it. The other
--- commands show nothing, whatever their number here
+-- h, the rises before the output: the opcode, for READ the address too, and for FSTRD one byte more, which is 40 on part 1, the one
+-- part that has it. The other commands show nothing, whatever their number here
 abbrev pub outputFrom : Part → Command → ℕ
 outputFrom p WREN = 8
 outputFrom p WRDI = 8
@@ -79,8 +79,8 @@ outputFrom p RDID = 8
 outputFrom p SLEEP = 8
 outputFrom p Unknown = 8
 
--- byte number i of a command whose opcode is followed by the bits rest. RDSR repeats the status. READ and FSTRD go up from the
--- address and roll over to 0. RDID shows three bytes, then nothing (house)
+-- byte number i of a command whose opcode is followed by the bits rest: RDSR has the status register each time, READ and FSTRD the
+-- byte i addresses further, modulo the size, RDID the identity, which ends with its third byte (own choice)
 abbrev pub output : Part → Status → List ℕ → Command → List Bool → ℕ → Output
 output p st m WREN rest i = nothing
 output p st m WRDI rest i = nothing
@@ -98,8 +98,8 @@ abbrev pub bitShown : Output → ℕ → ℕ
 bitShown nothing k = 2
 bitShown (byte v) k = v / 2 ^ (7 - k) % 2
 
--- at a counted fall after n rises, n at least h, the answer becomes bit 7 - ((n - h) mod 8) of byte number (n - h) div 8; before that,
--- and while the opcode is not whole, nothing is shown
+-- n counted rises before the fall, of which h were no output: n - h, divided by 8, is the number of the byte shown, and the
+-- remainder counts its bits from the top; nothing is shown before, nor while the opcode is not whole
 abbrev pub readShows : Part → Status → List ℕ → Reading → ℕ → ℕ
 readShows p st m partial n = 2
 readShows p st m (command k rest) n =
@@ -113,7 +113,7 @@ fallShows p st m (afterRises bs) = readShows p st m (reading p bs) (length bs)
 
 -- ---- the answer
 
--- held or unselected, the answer is 2; after a hold the earlier bit is shown again
+-- nothing is driven while the part is unselected or held; a hold does not change what is shown after it
 abbrev pub unlessHeld : Levels → ℕ → ℕ
 unlessHeld l a = cond (l .cs) 2 (cond (l .hold) a 2)
 

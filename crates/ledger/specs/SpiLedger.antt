@@ -35,7 +35,7 @@ pub data Item : Type 0 where
   powerOff : Item
   selection : List Bool → End → Item
 
--- a counted rise: the selection that has not ended gets a bit (CS# 0 at power on being no fall, there may be none)
+-- a counted rise adds a bit to the open selection; there is none if CS# has been 0 since power on
 abbrev pub withBit : Bool → List Item → List Item
 withBit b [] = []
 withBit b (powerOn ∷ is) = powerOn ∷ is
@@ -51,7 +51,7 @@ closed wp (powerOff ∷ is) = powerOff ∷ is
 closed wp (selection bs unended ∷ is) = selection bs (ended wp) ∷ is
 closed wp (selection bs (ended w) ∷ is) = selection bs (ended w) ∷ is
 
--- selections and counted rises are as in the bus rules
+-- what an edge adds: CS# falling opens a selection and rising ends it, a counted rise is a bit
 abbrev pub itemsOnEdge : Edge → Bool → List Item → List Item
 itemsOnEdge Select wp is = selection [] unended ∷ is
 itemsOnEdge Deselect wp is = closed wp is
@@ -118,7 +118,7 @@ dataBytes p rest = bytes (afterAddress (field (p .width) rest))
 abbrev pub dataAddress : Part → List Bool → ℕ
 dataAddress p rest = addressIn p (field (p .width) rest)
 
--- ---- sleep: the selection after a whole SLEEP, with no power off between, is ignored and counts as none
+-- ---- sleep: after a whole SLEEP the next selection of the same power on is ignored, and left out here
 
 abbrev pub sleepCommand : Command → Bool
 sleepCommand WREN = false
@@ -150,7 +150,7 @@ withoutIgnored p (powerOn ∷ is) = powerOn ∷ withoutIgnored p is
 withoutIgnored p (powerOff ∷ is) = powerOff ∷ withoutIgnored p is
 withoutIgnored p (selection bs e ∷ is) = cond (asleep p is) (withoutIgnored p is) (selection bs e ∷ withoutIgnored p is)
 
--- ---- the enable: a whole WREN since power on, with no whole WRDI, and no WRITE or WRSR with a whole data byte, in between
+-- ---- the enable: set by a whole WREN; ended by a whole WRDI, by power, and by a WRITE or WRSR that had a whole data byte
 
 abbrev pub unlessAny : List ℕ → Bool → Bool
 unlessAny [] e = e
@@ -194,8 +194,8 @@ bitsIn v = record { srwd = eqb (v / 128 % 2) 1; bp1 = eqb (v / 8 % 2) 1; bp0 = e
 abbrev pub register : SavedBits → Bool → Status
 register b e = record { srwd = b .srwd; bp1 = b .bp1; bp0 = b .bp0; wel = e }
 
--- WRSR with enable: at CS# rising after a whole data byte, the first one's bits 7, 3, 2, unless SRWD is 1 in the ledger and WP#
--- is 0 in that sample
+-- an ended WRSR with the enable and a whole data byte writes bits 7, 3 and 2 of its first one; SRWD in the ledger together with WP#
+-- low at the end bars it
 abbrev pub statusWrite : List ℕ → Bool → Bool → SavedBits → SavedBits
 statusWrite [] e wp b = b
 statusWrite (v ∷ vs) e wp b = cond (e && not (b .srwd && not wp)) (bitsIn v) b
@@ -226,7 +226,7 @@ bits p made (selection bs (ended wp) ∷ is) = bitsAfter (reading p bs) (enabled
 
 -- ---- the memory writes
 
--- each whole data byte goes to its address, up by one each time and rolled over, and is permitted unless the bits protect it
+-- data bytes from address a on, each one address further and at 0 after the top: a permitted write is one below the protected start
 abbrev pub placed : Part → SavedBits → ℕ → List ℕ → List Store
 placed p b a [] = []
 placed p b a (v ∷ vs) =

@@ -1,6 +1,5 @@
--- For a state that the build's own calls reach from a making, refused or not, no event and no run gives number 1 or 2, and with a
--- memory of the wrong length every event gives 3 and changes nothing. From the ranges of such states and the order of the tests.
--- Assumes nothing.
+-- For every reached state no event and no run gives number 1 or 2, and with a memory of the wrong length every event gives 3 and
+-- changes nothing. From the ranges of such states and the order of the tests. Assumes nothing.
 use Prim.Native.Nat.{ℕ}
 use mathlib.Core.Path.{_≡_, refl}
 use mathlib.Core.Bool.{Bool, true, false, cond}

@@ -1,5 +1,5 @@
--- States that the build's own calls reach from a making, refused or not, are in range, whatever numbers, bytes, quotas and
--- memories are given: numbers 1 and 2 are never given for them. From the same fact for one event. Assumes nothing.
+-- Reached states are in range, whatever numbers, bytes, quotas and memories the calls were given, so that numbers 1 and 2 are not
+-- given for them. From the same fact for one event. Assumes nothing.
 use Prim.Native.Nat.{ℕ}
 use mathlib.Core.Path.{_≡_}
 use mathlib.Core.Bool.{true, cond}

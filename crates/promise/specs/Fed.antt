@@ -1,5 +1,5 @@
--- What the ledger is fed: in order, the accepted events (number 0) with their answers. They come from the bytes of the list and
--- from the numbers and answers seen, not from states.
+-- The history of a list: its accepted events in their order, each beside its answer. They come from the bytes of the list and from
+-- the numbers and answers seen, not from states.
 use Prim.Native.Nat.{ℕ}
 use mathlib.Core.Bool.{cond}
 use mathlib.Core.List.{List, [], _∷_}

@@ -1,5 +1,5 @@
--- The ledger of a model just made, after a history: it starts with the bytes before the first event and the bits made. Each
--- permitted write changes it.
+-- The ledger of a model just made, after a history: what the permitted writes and status writes have made of the first memory and
+-- of the bits of the making.
 use Prim.Native.Nat.{ℕ, _+_, _*_}
 use mathlib.Core.Bool.{cond}
 use mathlib.Core.List.{List}
@@ -17,7 +17,7 @@ use Rattle.ledger.specs.I2cLedger as I2cLedger
 abbrev pub savedIn : Status → SavedBits
 savedIn st = record { srwd = st .srwd; bp1 = st .bp1; bp0 = st .bp0 }
 
--- saved bits as a making takes them: 0 to 7 as SRWD BP1 BP0
+-- saved bits as the number that a making takes: three bits, SRWD on top
 abbrev pub bitsNumber : SavedBits → ℕ
 bitsNumber b = 4 * bit (b .srwd) + 2 * bit (b .bp1) + bit (b .bp0)
 

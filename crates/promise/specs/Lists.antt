@@ -1,5 +1,5 @@
--- A list of events on a state and a memory, each event any bytes, unknown kinds and incomplete ones included: one after the other,
--- each by the definition of a single event. A refused event does not end the list.
+-- A list of events on a state and a memory, one after the other, each by the definition of a single event. An event may be any
+-- bytes, also such as are no event, and one that is refused does not end the list.
 use Prim.Native.Nat.{ℕ}
 use mathlib.Core.List.{List, [], _∷_}
 use Rattle.chip.specs.declared.model.Model.{Model}

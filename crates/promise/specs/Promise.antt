@@ -1,4 +1,4 @@
--- Demand 3: what is promised of memory and saved bits after any list of events and then a cut. One claim about the whole list.
+-- Demand 3: what is promised of memory and saved bits after any list of events and then a cut, as one claim over the list.
 use Prim.Native.Nat.{ℕ, _<_}
 use mathlib.Core.Path.{_≡_}
 use mathlib.Core.List.{List, [], _∷_, _++_}
@@ -14,11 +14,11 @@ use Rattle.promise.specs.Lists.{observations, modelAfter, memoryAfter}
 use Rattle.promise.specs.Fed.{fed}
 use Rattle.promise.specs.Ledger.{savedIn, bitsNumber, ledgerStores, ledgerBits}
 
--- the list starts from a model just made; a refused making counts as that of part 0 with zero pins and bits, which is what it gives
+-- the model that the list begins on: the one that a making gives, refused or not
 abbrev pub madeBy : ℕ → ℕ → ℕ → Model
 madeBy part pins bits = makeOf part pins bits .model
 
--- a cut is a 03 after any event or before the first; without power it is refused, and then it changes nothing and is not fed
+-- a cut is a power off, at any place of a list. Without power it is refused, changes nothing and leaves no entry in the history
 abbrev pub cut : List ℕ
 cut = 3 ∷ []
 
@@ -41,7 +41,7 @@ module _ (part pins bits : ℕ) (first : List ℕ) (es : List (List ℕ)) where
   abbrev pub cutMemory : List ℕ
   cutMemory = memoryAfter made first (thenCut es)
 
-  -- the ledger is fed the accepted events of the whole list with the cut, since 03 ends what is open and on part 0 zeroes the bits
+  -- the history has the cut too: a power off ends what is open, and zeroes the bits of a part that does not save them
   abbrev pub cutHistory : List Entry
   cutHistory = historyOf made first (thenCut es)
 
@@ -64,5 +64,5 @@ module _ (part pins bits : ℕ) (first : List ℕ) (es : List (List ℕ)) where
     pub makes : freshMade .number ≡ 0
     -- the model is exactly the one that it makes
     pub fresh : cutModel ≡ freshMade .model
-    -- every later list, with a copy of the memory for each model: number, answer and memory agree after each event
+    -- the two models, each with its own copy of the memory, show the same numbers, answers and memories over every later list
     pub later : (ks : List (List ℕ)) → observations cutModel cutMemory ks ≡ observations (freshMade .model) cutMemory ks

@@ -1,4 +1,4 @@
--- The states that the calls reach from a making, refused or not.
+-- The states that a host can be given: by makings, events and runs, accepted or refused.
 use Prim.Native.Nat.{ℕ}
 use mathlib.Core.List.{List}
 use Rattle.chip.specs.declared.model.Model.{Model}
