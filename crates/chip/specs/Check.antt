@@ -1,4 +1,4 @@
--- Numbers 1, 2 and 3, in that order.
+-- What is tested of state and memory before anything else: numbers 1, 2 and 3, in that order (document 01, Numbers given back).
 use Prim.Native.Nat.{ℕ}
 use mathlib.Core.Path.{_≡_}
 use mathlib.Core.Bool.{Bool, true, cond, not, _&&_}
@@ -22,8 +22,8 @@ use Rattle.chip.specs.declared.model.Model.{Model}
 abbrev pub bitsClear : Status → Bool
 bitsClear st = not (st .srwd) && (not (st .bp1) && not (st .bp0))
 
--- saved bits are 0 to 7 for a part that saves them, and under power for every SPI part, part 0 too, whatever its bus state is: that it
--- is not the part's is number 2
+-- whether SRWD, BP1 and BP0 may be set: on a part that saves them always, and under power on every SPI part, so on part 0 too,
+-- whichever bus the state has; that it has the wrong one is number 2
 abbrev pub holdsBits : Part → BusState → Bool
 holdsBits p Unpowered = p .saved
 holdsBits p (SpiOn s) = cond (p .saved) true (isSpi (p .bus))
@@ -33,21 +33,21 @@ holdsBits p (I2cOn s) = cond (p .saved) true (isSpi (p .bus))
 abbrev pub placedIn : Part → Model → Bool
 placedIn p s = ltb (s .pins) (p .pins) && cond (holdsBits p (s .bus)) true (bitsClear (s .status))
 
--- number 1 is given where part, address pins or saved bits are out of range
+-- the test of number 1: a part of the table, with pins and saved bits that it can have
 abbrev pub modelIn : Model → Bool
 modelIn s = ltb (s .part) 5 && placedIn (partOf (s .part)) s
 
 abbrev pub i2cIn : Part → State.I2c → Bool
 i2cIn p s = ltb (s .buffer .address) (p .size) && I2cRanges.phaseIn p (s .phase)
 
--- number 2 is given where a state number lies outside its range: the bus is the part's, WEL is set only on an SPI part under power,
--- and the numbers of phase and address buffer are in range
+-- the test of number 2: the bus is the part's, WEL is set only on an SPI part under power, and the numbers of phase and address buffer
+-- are in range
 abbrev pub busIn : Part → Status → BusState → Bool
 busIn p st Unpowered = not (st .wel)
 busIn p st (SpiOn s) = isSpi (p .bus) && SpiRanges.phaseIn p (s .phase)
 busIn p st (I2cOn s) = not (isSpi (p .bus)) && (not (st .wel) && i2cIn p s)
 
--- number 3 is given where the memory's length is not the part's size
+-- number 2, then number 3: the memory must have just as many bytes as the part
 abbrev pub partCheck : Part → Model → ℕ → Verdict
 partCheck p s length = cond (busIn p (s .status) (s .bus)) (cond (eqb length (p .size)) Passed (Failed MemoryLength)) (Failed StateRange)
 

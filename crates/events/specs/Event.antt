@@ -31,7 +31,7 @@ use Rattle.power.specs.Power.{spiStart, i2cStart, keptStatus}
 abbrev pub accepted : Answer → Model → Answered
 accepted a s = record { number = 0; answer = answerNumber a; model = s }
 
--- a refused event gives its number, answer 2, the given state
+-- a refusal has its number, drives nothing and leaves the state as it was
 abbrev pub refused : Refusal → Model → Answered
 refused r s = record { number = refusalNumber r; answer = 2; model = s }
 
@@ -40,24 +40,24 @@ pub record Outcome : Type 0 where
   pub result : Answered
   pub memory : List ℕ
 
--- memory untouched
+-- with the memory as it was
 abbrev pub keeping : List ℕ → Answered → Outcome
 keeping m r = record { result = r; memory = m }
 
--- an expected answer is compared with the present answer, which it returns with the state unchanged; number 9 is given where they
--- differ
+-- an expected answer v: if it is the part's answer at present, it is accepted with that answer and changes nothing, else refused
+-- with 9
 abbrev pub expected : Model → Answer → ℕ → Answered
 expected s a v = cond (eqb v (answerNumber a)) (accepted a s) (refused R.Unexpected s)
 
--- power on and power off answer 2; power on clears WEL
+-- power on clears WEL, keeps the saved bits and drives nothing
 abbrev pub poweredOn : Model → BusState → Answered
 poweredOn s b = accepted HighZ (modelOf (s .part) (s .pins) (withWel (s .status) false) b)
 
--- what a making with the bits that survive gives
+-- power off drives nothing and leaves what a making with the bits that outlive it gives
 abbrev pub poweredOff : Part → Model → Answered
 poweredOff p s = accepted HighZ (unpowered (s .part) (s .pins) (keptStatus p (s .status)))
 
--- number 7: no power, and the event is 03, 04 or 05
+-- without power: power on is accepted, and anything else is refused with 7
 abbrev pub onUnpowered : Model → Event → Answered
 onUnpowered s (SpiPowerOn x) = poweredOn s (SpiOn (spiStart (SpiLevels.levelsOf x)))
 onUnpowered s (I2cPowerOn x a) = poweredOn s (I2cOn (i2cStart (I2cLevels.levelsOf x) a))
@@ -74,7 +74,7 @@ abbrev pub i2cSampled : Model → List ℕ → I2cSample.Outcome → Outcome
 i2cSampled s m o =
     record { result = accepted (o .answer) (modelOf (s .part) (s .pins) (s .status) (I2cOn (o .i2c))); memory = applied (o .write) m }
 
--- number 8: power is on, and the event is 01 or 02
+-- under power, here on SPI and below on I2C: power on is refused with 8, and an expected answer is held against the present one
 abbrev pub onSpi : Part → Model → SpiState.Spi → List ℕ → Event → Outcome
 onSpi p s x m (SpiPowerOn v) = keeping m (refused R.Powered s)
 onSpi p s x m (I2cPowerOn v a) = keeping m (refused R.Powered s)

@@ -1,5 +1,5 @@
--- The part's pull changes on SCL falls. The ninth clock acknowledges; a byte that goes out shows its bits, most significant
--- first, by pulling at a 0.
+-- When the part pulls the line low, which a fall of SCL decides: before the ninth rise to acknowledge a byte that came in, and before
+-- each of the eight rises of a byte that goes out if its bit is 0, most significant first.
 use Prim.Native.Nat.{ℕ}
 use mathlib.Core.Bool.{Bool, true, false, cond, not}
 use mathlib.Core.List.{List}
@@ -20,7 +20,7 @@ ours (ReadWord a16) = true
 ours (WriteWord a16) = true
 ours OtherWord = false
 
--- a byte that came in as v: an own word, address and data bytes are acknowledged; another word gets no acknowledge
+-- whether a byte that came in as v is acknowledged: each is, but for a word that is not the part's
 abbrev pub acknowledges : Part → ℕ → Field → ℕ → Bool
 acknowledges p pins Word v = ours (wordOf p pins v)
 acknowledges p pins (HighByte a16) v = true

@@ -24,7 +24,7 @@ use Rattle.i2c.specs.Store.{riseWrite}
 use Rattle.i2c.specs.Pull.{pullsAfter}
 use Rattle.transfer.specs.Ranges.{PhaseIn, Placed}
 
--- I2C never answers 1
+-- SDA is open-drain: the part pulls it low or lets go, and never drives it high
 abbrev pub answerOf : Bool → Answer
 answerOf true = Low
 answerOf false = HighZ
@@ -40,8 +40,8 @@ abbrev pub stepTo : Levels → Bool → AddressBuffer → Phase → Write → Ou
 stepTo l pulling b ph w =
     record { i2c = record { last = l; pulling = pulling; buffer = b; phase = ph }; answer = answerOf pulling; write = w }
 
--- what an edge does, with the levels l and a memory that the part may read. START and STOP release the line and drop unfinished
--- bits; START awaits a word, STOP rests
+-- what an edge does, with the levels l and a memory that the part may read. At START and STOP the part lets go of the line and forgets
+-- a byte that is not whole; it then takes in a word after START, and rests after STOP
 abbrev pub stepOn : Edge → Part → ℕ → I2c → Levels → List ℕ → Outcome
 stepOn Start p pins s l m = stepTo l false (s .buffer) (Taking Word 0 0) Nothing
 stepOn Stop p pins s l m = stepTo l false (s .buffer) Rest Nothing
@@ -53,7 +53,7 @@ stepOn Quiet p pins s l m = stepTo l (s .pulling) (s .buffer) (s .phase) Nothing
 unfoldable pub stepOf : Part → ℕ → I2c → Levels → List ℕ → Outcome
 stepOf p pins s l m = stepOn (edgeOf (s .pulling) (s .last) l) p pins s l m
 
--- what a step needs: a part of the table with its pins and a buffer inside, a phase in its ranges, a memory of the part's size
+-- what a step needs: constants that fit, with pins and a buffer of the part, a phase in its ranges, a memory of the part's size
 pub record Ready (p : Part) (pins : ℕ) (s : I2c) (m : List ℕ) : Type 0 where
   pub placed : Placed p pins (s .buffer)
   pub inside : PhaseIn p (s .phase)

@@ -1,4 +1,5 @@
--- A data byte is stored at its ninth rise if WP is 0 in that sample; with WP 1 it is acknowledged and dropped (house).
+-- What a rise of SCL writes: with WP low in its sample, the ninth rise of a data byte stores it. If WP is high there the byte is lost,
+-- though acknowledged (own choice).
 use Prim.Native.Nat.{ℕ}
 use mathlib.Core.Bool.{Bool, cond}
 use lib.Dec.{ltb}

@@ -1,4 +1,4 @@
--- A model is made, unpowered, from a part number, address pins and saved bits.
+-- Making a model: which part, address pins and saved bits there can be, and the state without power that they give.
 use Prim.Native.Nat.{ℕ, _/_, _%_}
 use mathlib.Core.Bool.{Bool, false, cond, _&&_}
 use lib.Dec.{ltb, eqb}
@@ -11,18 +11,18 @@ use Rattle.parts.specs.Table.{partOf}
 use Rattle.chip.specs.Model.{unpowered}
 use Rattle.model.specs.declared.make.Made.{Made}
 
--- saved bits 0 to 7 as SRWD BP1 BP0
+-- the register at a making, by its three saved bits from the highest down: SRWD, BP1, BP0; WEL is 0
 abbrev pub statusOf : ℕ → Status
 statusOf bits = record { srwd = eqb (bits / 4 % 2) 1; bp1 = eqb (bits / 2 % 2) 1; bp0 = eqb (bits % 2) 1; wel = false }
 
--- address pins 0 to 7 for part 3, 0 to 3 for part 4, else 0; saved bits 0 to 7 for parts 1 and 2, else 0
+-- pins below the part's number of settings, and any three saved bits on a part that saves them, on the others 0
 abbrev pub settingsIn : Part → ℕ → ℕ → Bool
 settingsIn p pins bits = ltb pins (p .pins) && cond (p .saved) (ltb bits 8) (ltb bits 1)
 
 abbrev pub makeIn : ℕ → ℕ → ℕ → Bool
 makeIn part pins bits = ltb part 5 && settingsIn (partOf part) pins bits
 
--- refused making gives its number and the unpowered model of part 0 with zero pins and bits
+-- if refused, 1 and a model all the same: part 0 without power, pins and bits 0
 unfoldable pub makeOf : ℕ → ℕ → ℕ → Made
 makeOf part pins bits =
     cond (makeIn part pins bits) (record { number = 0; model = unpowered part pins (statusOf bits) })

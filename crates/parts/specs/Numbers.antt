@@ -18,7 +18,7 @@ refusalNumber Unpowered = 7
 refusalNumber Powered = 8
 refusalNumber Unexpected = 9
 
--- the answer is 0 (low), 1 (high) or 2 (nothing driven)
+-- what the part drives, as a number; 2 is for nothing (document 01, Models and events)
 abbrev pub answerNumber : Answer → ℕ
 answerNumber Low = 0
 answerNumber High = 1

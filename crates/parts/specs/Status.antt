@@ -1,4 +1,4 @@
--- The status register: bit 7 SRWD, 3 BP1, 2 BP0, 1 WEL, rest 0.
+-- The status register of an SPI part: the byte that it reads as, and where block protection begins.
 use Prim.Native.Nat.{ℕ, _+_, _*_}
 use mathlib.Core.Bool.{Bool, true, false}
 use lib.ListN.{getD}
@@ -13,7 +13,7 @@ bit false = 0
 abbrev pub cleared : Status
 cleared = record { srwd = false; bp1 = false; bp0 = false; wel = false }
 
--- the byte that RDSR shows
+-- the byte that RDSR shows: SRWD is its bit 7, BP1 bit 3, BP0 bit 2 and WEL bit 1; the others read 0
 abbrev pub statusByte : Status → ℕ
 statusByte s = 128 * bit (s .srwd) + 8 * bit (s .bp1) + 4 * bit (s .bp0) + 2 * bit (s .wel)
 
@@ -21,7 +21,7 @@ statusByte s = 128 * bit (s .srwd) + 8 * bit (s .bp1) + 4 * bit (s .bp0) + 2 * b
 abbrev pub blockBits : Status → ℕ
 blockBits s = 2 * bit (s .bp1) + bit (s .bp0)
 
--- protected ranges, each to the top: the first protected address (the size itself for 00, which protects nothing)
+-- block protection covers the addresses from here to the top; for BP1 BP0 = 00 this is the size, so that it covers none
 unfoldable pub protectedStart : Status → Part → ℕ
 protectedStart s p = getD (p .starts) (blockBits s) 0
 

@@ -98,7 +98,7 @@ ms85rc1mty =
       starts = 131072 ∷ 131072 ∷ 131072 ∷ 131072 ∷ [];
     }
 
--- all zeros: what a number past the table stands for
+-- an empty row, which a number past the table stands for
 abbrev pub noPart : Part
 noPart =
     record {

@@ -1,4 +1,4 @@
--- What a program shows of a trace: a making with address pins 0 and saved bits 0, and a run with no limit.
+-- What a program shows of a trace: a making with pins and bits 0, and a run with no limit on events.
 use Prim.Native.Nat.{ℕ}
 use mathlib.Core.Bool.{Bool, true, false, cond}
 use mathlib.Core.List.{List, []}

@@ -1,10 +1,10 @@
--- The text of a run: the answers of accepted events as 0, 1 or Z, 64 to a line.
+-- The text of a run: a letter for each accepted event's answer, in lines of 64.
 use Prim.Native.Nat.{ℕ, _+_}
 use mathlib.Core.Bool.{cond}
 use mathlib.Core.List.{List, [], _∷_, _++_}
 use lib.Dec.{eqb}
 
--- '0', '1', 'Z'
+-- '0', '1', and 'Z' for nothing driven
 abbrev pub letter : ℕ → ℕ
 letter a = cond (eqb a 0) 48 (cond (eqb a 1) 49 90)
 

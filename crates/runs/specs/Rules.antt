@@ -1,4 +1,4 @@
--- The words of the run rule and of the count.
+-- What the run rule makes of two runs, and what holds of the count of a run.
 use Prim.Native.Nat.{ℕ, _+_, _≤_}
 use mathlib.Core.Path.{_≡_}
 use mathlib.Core.List.{_++_}
@@ -17,7 +17,7 @@ joinedRuns a b =
       answers = a .answers ++ b .answers;
     }
 
--- both facts of a run on n bytes
+-- a run on n bytes: as many answers as accepted events, and no more of these than bytes
 pub record Counted (n : ℕ) (r : Run) : Type 0 where
   pub answered : length (r .answers) ≡ r .count
   pub within : r .count ≤ n

@@ -1,4 +1,4 @@
--- Trace runs take an event quota. A run stops when the quota is used, the trace ends or an event is refused.
+-- A run of a trace: events from its front, one after the other, as many as the quota allows, up to its end or to one that is refused.
 use Prim.Native.Nat.{ℕ, zero, suc, _+_}
 use mathlib.Core.Bool.{cond}
 use mathlib.Core.List.{List, [], _∷_}
@@ -13,8 +13,8 @@ use Rattle.chip.specs.Check.{checkOf}
 use Rattle.runs.specs.declared.run.Ran.{Ran}
 use Rattle.runs.specs.Event.{eventOf}
 
--- number or 0, state, count of accepted events, offset of the first kind byte not accepted, memory, and the answers of the accepted
--- events
+-- number or 0, state, how many events were accepted and how many bytes these take (so the offset points at the kind byte of the next
+-- one, or is the trace's length), memory, and their answers
 pub record Run : Type 0 where
   pub number : ℕ
   pub model : Model
@@ -59,6 +59,6 @@ abbrev pub runOnVerdict : Verdict → ℕ → List ℕ → Model → List ℕ �
 runOnVerdict Passed quota t s m = loopOf quota t s m
 runOnVerdict (Failed r) quota t s m = stop (refusalNumber r) s m
 
--- a run tests 1 to 3 first, even for an empty trace or quota 0
+-- state and memory are tested before the trace is looked at, also if it has no bytes or the quota is 0
 unfoldable pub runOf : ℕ → List ℕ → Model → List ℕ → Run
 runOf quota t s m = runOnVerdict (checkOf s (length m)) quota t s m

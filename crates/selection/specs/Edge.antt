@@ -1,11 +1,11 @@
--- What happens between two samples. A selection runs from CS# falling to CS# rising. A clock edge counts only if CS# is 0
--- and HOLD# is 1 in the old and the new sample (house for edges in the same sample).
+-- What happens between two samples (document 01, SPI rules). Falling CS# begins a selection and rising CS# ends it, held or not. An
+-- edge of SCK counts if both samples have the part selected and not held, so never where CS# or HOLD# changes too (own choice).
 use mathlib.Core.Bool.{Bool, true, false}
 use Rattle.selection.specs.declared.levels.Levels.{Levels}
 use Rattle.selection.specs.declared.edge.Edge.{Edge}
 use Rattle.selection.specs.declared.edge.Edge.the-variants.{Select, Deselect, Rise, Fall, Quiet}
 
--- of a selected part: HOLD# before and now, SCK before and now, SI now
+-- of a part selected in both samples: HOLD# before and now, SCK before and now, SI now
 abbrev pub clockEdge : Bool → Bool → Bool → Bool → Bool → Edge
 clockEdge false h k k′ b = Quiet
 clockEdge true false k k′ b = Quiet

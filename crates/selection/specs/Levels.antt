@@ -1,4 +1,4 @@
--- SPI sample: bit 0 CS#, 1 SCK, 2 SI, 3 WP#, 4 HOLD#.
+-- The pins in an SPI sample, from its lowest bit up: CS#, SCK, SI, WP#, HOLD#. A 1 is high.
 use Prim.Native.Nat.{ℕ, _/_, _%_}
 use lib.Dec.{eqb}
 use Rattle.selection.specs.declared.levels.Levels.{Levels}

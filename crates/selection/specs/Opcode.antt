@@ -1,4 +1,4 @@
--- The opcodes. After a code that it lacks the part ignores the bus until CS# rises.
+-- Which command an opcode is on a part. One that the part lacks is Unknown, and what is left of the selection is ignored.
 use Prim.Native.Nat.{ℕ}
 use mathlib.Core.Bool.{cond}
 use lib.Dec.{eqb}

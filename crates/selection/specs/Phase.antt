@@ -26,7 +26,7 @@ width p (Dummy a) = 8
 width p (Data a w) = 8
 width p StatusByte = 8
 
--- the phase after a whole opcode. Output starts after h rises: h = 8 for RDSR and RDID
+-- the phase after a whole opcode. RDSR and RDID take in nothing more, so their output begins with the next counted fall
 abbrev pub phaseAfterOpcode : Command → Phase
 phaseAfterOpcode WREN = Waiting SetLatch
 phaseAfterOpcode WRDI = Waiting ClearLatch
@@ -39,8 +39,8 @@ phaseAfterOpcode RDID = Showing (Identity 0) 0
 phaseAfterOpcode SLEEP = Waiting FallAsleep
 phaseAfterOpcode Unknown = Ignoring
 
--- the phase after the last bit of a field, whose bits make v. Output starts after 8 + address bits for READ, and after the
--- dummy byte for FSTRD (40). An address counts modulo the size; WRITE's goes up by one after each data byte, stored or not
+-- the phase after the last bit of a field, whose bits make v. READ shows from its address on, FSTRD after eight bits more of any
+-- level. Addresses are taken modulo the size; each data byte of WRITE, stored or not, moves the address one up, and from the top to 0
 abbrev pub phaseAfterField : Part → Field → ℕ → Phase
 phaseAfterField p Opcode v = phaseAfterOpcode (commandOf p v)
 phaseAfterField p ReadAddress v = Showing (Memory (v % p .size)) 0
@@ -50,8 +50,8 @@ phaseAfterField p (Dummy a) v = Showing (Memory a) 0
 phaseAfterField p (Data a w) v = Taking (Data (nextAddress (p .size) a) true) 0 0
 phaseAfterField p StatusByte v = Waiting (WriteStatus v)
 
--- what is shown after the last bit of a byte: READ and FSTRD go up from the address and roll over, RDSR repeats the status,
--- RDID has three bytes
+-- what is shown after the last bit of a byte: of the memory the next one, after the top the one at 0; the register again; the next of
+-- three identity bytes, where 3 says that they are over
 abbrev pub nextSource : Part → Source → Source
 nextSource p (Memory a) = Memory (nextAddress (p .size) a)
 nextSource p Register = Register

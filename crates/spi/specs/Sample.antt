@@ -25,7 +25,7 @@ use Rattle.spi.specs.Show.{afterFall, answerAt}
 use Rattle.spi_status.specs.Deselect.{statusAfter, asleepAfter}
 use Rattle.selection.specs.Ranges.{PhaseIn}
 
--- the phase after CS# falls: the selection after SLEEP is ignored
+-- the phase after CS# falls: a part that sleeps ignores the selection
 abbrev pub selected : Bool → Phase
 selected true = Ignoring
 selected false = Taking Opcode 0 0
@@ -53,7 +53,7 @@ stepOn Quiet p st s l m = stepTo st l (s .asleep) (s .shown) (s .phase) Nothing
 unfoldable pub stepOf : Part → Status → Spi → Levels → List ℕ → Outcome
 stepOf p st s l m = stepOn (edgeOf (s .last) l) p st s l m
 
--- what a step needs: constants of a part of the table, a phase in its ranges, a memory of the part's size
+-- what a step needs: constants that fit, a phase in its ranges, a memory of the part's size
 pub record Ready (p : Part) (s : Spi) (m : List ℕ) : Type 0 where
   pub fit : Fit p
   pub inside : PhaseIn p (s .phase)

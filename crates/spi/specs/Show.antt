@@ -1,5 +1,5 @@
--- What SO shows. At a counted fall after n rises, n at least h, the answer becomes bit 7 - ((n - h) mod 8) of byte number
--- (n - h) div 8: a phase that shows a source has counted the rises since the h-th.
+-- What SO shows. A counted fall shows the bit that the rises since the command's last input bit have come to, from bit 7 of the first
+-- byte down and on through the bytes after it: a phase that shows a source has counted them (document 01, SPI rules).
 use Prim.Native.Nat.{ℕ}
 use mathlib.Core.Bool.{cond}
 use mathlib.Core.List.{List}
@@ -18,7 +18,7 @@ use Rattle.selection.specs.declared.phase.Source.the-variants.{Memory, Register
 use Rattle.selection.specs.declared.phase.Phase.{Phase}
 use Rattle.selection.specs.declared.phase.Phase.the-variants.{Rest, Ignoring, Taking, Showing, Waiting}
 
--- bit 7 - k of what a source shows; RDID shows three bytes, then nothing (house)
+-- bit 7 - k of what a source shows; after the third identity byte nothing is driven (own choice)
 abbrev pub shownBit : Part → Status → List ℕ → Source → ℕ → Answer
 shownBit p st m (Memory a) k = levelOf (bitAt (getD m a 0) k)
 shownBit p st m Register k = levelOf (bitAt (statusByte st) k)
@@ -32,6 +32,6 @@ afterFall p st m (Taking f n v) old = old
 afterFall p st m (Showing s k) old = shownBit p st m s k
 afterFall p st m (Waiting a) old = old
 
--- held or unselected, the answer is 2; after a hold the earlier bit is shown again
+-- an unselected or held part drives nothing; a hold leaves what is shown, so that the same bit is back after it
 abbrev pub answerAt : Levels → Answer → Answer
 answerAt l shown = cond (l .cs) HighZ (cond (l .hold) shown HighZ)

@@ -1,4 +1,4 @@
--- WRITE: if WEL is 1, each data byte is stored at its eighth rise unless its address is protected.
+-- What WRITE stores: with WEL set, a data byte at the rise of its eighth bit, except where block protection covers its address.
 use Prim.Native.Nat.{ℕ}
 use mathlib.Core.Bool.{Bool, cond, _&&_}
 use lib.Dec.{ltb}
@@ -13,7 +13,7 @@ use Rattle.selection.specs.declared.phase.Field.the-variants.{Opcode, ReadAddre
 use Rattle.selection.specs.declared.phase.Phase.{Phase}
 use Rattle.selection.specs.declared.phase.Phase.the-variants.{Rest, Ignoring, Taking, Showing, Waiting}
 
--- a whole data byte v for the address a
+-- a whole data byte v for the address a: written with WEL set and below the protected start
 abbrev pub permitted : Part → Status → ℕ → ℕ → Write
 permitted p st a v = cond (st .wel && ltb a (protectedStart st p)) (Byte a v) Nothing
 

@@ -1,4 +1,4 @@
--- What CS# rising does.
+-- What CS# rising does to the status register and to sleep.
 use Prim.Native.Nat.{ℕ, _/_, _%_}
 use mathlib.Core.Bool.{Bool, true, false, cond, not, _&&_}
 use lib.Dec.{eqb}
@@ -11,24 +11,24 @@ use Rattle.selection.specs.declared.phase.Action.the-variants.{SetLatch, ClearL
 use Rattle.selection.specs.declared.phase.Phase.{Phase}
 use Rattle.selection.specs.declared.phase.Phase.the-variants.{Rest, Ignoring, Taking, Showing, Waiting}
 
--- bits 7, 3 and 2 of a byte, with WEL cleared
+-- SRWD, BP1 and BP0 by bits 7, 3 and 2 of a byte, with WEL cleared
 abbrev pub takenStatus : ℕ → Status
 takenStatus v = record { srwd = eqb (v / 128 % 2) 1; bp1 = eqb (v / 8 % 2) 1; bp0 = eqb (v / 4 % 2) 1; wel = false }
 
--- WRSR: when CS# rises after at least one whole data byte and WEL is 1, the first data byte's bits 7, 3, 2 are taken, unless
--- SRWD is 1 and WP# is 0 in that sample. WEL becomes 0 either way
+-- the end of a WRSR whose first data byte v is whole: with WEL set it gives SRWD, BP1 and BP0, but not if SRWD is set while WP# is
+-- low in the sample in which CS# rises. WEL is cleared in any case
 abbrev pub writtenStatus : Status → Bool → ℕ → Status
 writtenStatus st wp v = cond (st .wel && not (st .srwd && not wp)) (takenStatus v) (withWel st false)
 
--- WREN sets and WRDI clears WEL when CS# rises; SLEEP keeps it (house)
+-- what waited for CS# to rise: WREN sets WEL, WRDI clears it, SLEEP leaves it (own choice), and a WRSR ends as above
 abbrev pub actionStatus : Status → Bool → Action → Status
 actionStatus st wp SetLatch = withWel st true
 actionStatus st wp ClearLatch = withWel st false
 actionStatus st wp FallAsleep = st
 actionStatus st wp (WriteStatus v) = writtenStatus st wp v
 
--- at the end of a WRITE selection with at least one whole data byte WEL becomes 0, protected or not (house; 003 and 004 name
--- the command)
+-- a WRITE that had a whole data byte clears WEL as it ends, even if protection kept all of it out (own choice; sheets 003 and 004 name
+-- the command); nothing else that ends while bits come in changes the register
 abbrev pub fieldStatus : Status → Field → Status
 fieldStatus st Opcode = st
 fieldStatus st ReadAddress = st
@@ -59,8 +59,8 @@ sleeps (Taking f n v) = false
 sleeps (Showing s k) = false
 sleeps (Waiting a) = isSleep a
 
--- SLEEP takes effect when CS# rises. The selection after it is ignored and wakes the part at its end (house; the sheet gives a
--- time)
+-- whether the part sleeps once CS# has risen: a whole SLEEP puts it to sleep, and the end of the selection that it slept through wakes
+-- it (own choice; sheet 000 gives a time)
 abbrev pub asleepAfter : Bool → Phase → Bool
 asleepAfter true ph = false
 asleepAfter false ph = sleeps ph

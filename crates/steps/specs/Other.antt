@@ -15,7 +15,7 @@ use Rattle.chip.specs.declared.model.BusState.{BusState}
 use Rattle.chip.specs.declared.model.Model.{Model}
 use Rattle.steps.specs.declared.other.Other.{Other}
 
--- number or 0, state, and the offset of the first kind byte not accepted
+-- number or 0, state, and how many bytes of the trace the accepted events take
 abbrev pub other : ℕ → Model → ℕ → Other
 other n s o = record { number = n; model = s; offset = o }
 
@@ -28,7 +28,7 @@ stoppedBy (Refused r) s o = other (refusalNumber r) s o
 abbrev pub otherBy : Answered → ℕ → Model → ℕ → Other
 otherBy a n s o = cond (eqb (a .number) 0) (other 0 (a .model) (o + n)) (other (a .number) s o)
 
--- by what was read; the reader's refusal leaves with its offset
+-- by what was read; a refusal of the reader stops the run before the event
 abbrev pub otherOf : Read → Model → List ℕ → ℕ → Other
 otherOf (Whole e n) s m o = otherBy (advanceOf s m e .result) n s o
 otherOf (Refused r) s m o = other (refusalNumber r) s o

@@ -8,12 +8,12 @@ use Rattle.parts.specs.declared.part.Part.{Part}
 use Rattle.trace.specs.declared.event.Event.{Event}
 use Rattle.trace.specs.declared.event.Event.the-variants.{SpiPowerOn, I2cPowerOn, PowerOff, Sample, Expected}
 
--- an SPI sample is 0 to 31, an I2C sample 0 to 7
+-- a sample lies below this: it has five pins on SPI and three levels on I2C
 abbrev pub sampleLimit : Bus → ℕ
 sampleLimit Spi = 32
 sampleLimit I2c = 8
 
--- number 6 is given where sample, start address (size or more) or expected value is out of range
+-- the test of number 6: a sample below its limit, a start address below the size, an expected answer of at most 2
 abbrev pub fieldsIn : Part → Event → Bool
 fieldsIn p (SpiPowerOn x) = ltb x (sampleLimit (p .bus))
 fieldsIn p (I2cPowerOn x a) = ltb x (sampleLimit (p .bus)) && ltb a (p .size)

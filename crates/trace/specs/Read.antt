@@ -1,5 +1,5 @@
--- An event in a trace is one byte of kind, then a body whose length the kind fixes. A single event is read from the front of
--- its bytes; bytes after it are ignored.
+-- The event at the front of some bytes, or why there is none. The first byte is its kind, which says how many bytes it has in all;
+-- those after it are not looked at (document 01, Models and events).
 use Prim.Native.Nat.{ℕ, _+_, _*_}
 use mathlib.Core.Bool.{Bool, true, false, cond, not}
 use mathlib.Core.List.{List}
@@ -15,7 +15,7 @@ use Rattle.trace.specs.declared.read.Read.{Read}
 use Rattle.trace.specs.declared.read.Read.the-variants.{Whole, Refused}
 use Rattle.trace.specs.Event.{fieldsIn}
 
--- 01 SPI power on, 02 I2C power on, 03 power off, 04 sample, 05 expected answer; 01 on I2C and 02 on SPI are unknown
+-- power off (03), sample (04) and expected answer (05) are known on both buses; power on is 01 on SPI alone and 02 on I2C alone
 abbrev pub knownKind : Bus → ℕ → Bool
 knownKind bus k =
     cond (eqb k 1) (isSpi bus) (cond (eqb k 2) (not (isSpi bus)) (cond (eqb k 3) true (cond (eqb k 4) true (cond (eqb k 5) true false))))
@@ -24,7 +24,7 @@ knownKind bus k =
 abbrev pub eventLength : ℕ → ℕ
 eventLength k = cond (eqb k 2) 5 (cond (eqb k 3) 1 2)
 
--- three bytes, most significant first
+-- of three bytes, the high one first
 abbrev pub startAddress : ℕ → ℕ → ℕ → ℕ
 startAddress high middle low = 65536 * high + 256 * middle + low
 

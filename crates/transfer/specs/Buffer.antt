@@ -1,4 +1,4 @@
--- The address buffer holds n and whether n was used.
+-- The address buffer: an address and whether it has been used, what changes it, and where a read starts (document 01, I2C rules).
 use Prim.Native.Nat.{ℕ, _+_, _*_, _%_}
 use mathlib.Core.Bool.{Bool, true, false, cond}
 use lib.Dec.{ltb}
@@ -11,27 +11,27 @@ use Rattle.transfer.specs.declared.phase.Field.the-variants.{Word, HighB
 use Rattle.transfer.specs.declared.phase.Phase.{Phase}
 use Rattle.transfer.specs.declared.phase.Phase.the-variants.{Rest, Ignoring, Taking, Sending}
 
--- the address of A16 and the two address bytes; an address counts modulo the size
+-- A16 above the two address bytes, the high one first, modulo the size
 abbrev pub addressOfBytes : Part → Bool → ℕ → ℕ → ℕ
 addressOfBytes p a16 high low = (65536 * bit a16 + 256 * high + low) % p .size
 
--- for part 4, bit 16 of n is first replaced by A16 of the word (002)
+-- where the word carries A16, which is on part 4, it takes the place of the address's bit 16 (sheet 002)
 abbrev pub withA16 : Part → Bool → ℕ → ℕ
 withA16 p a16 n = cond (p .a16) (65536 * bit a16 + n % 65536) n
 
--- a read word begins at n if unused, else at n + 1, rolled over
+-- where a read word starts: at the buffer's address, A16 put in, if it is unused, else at the one after it, which is 0 after the top
 abbrev pub readAddress : Part → AddressBuffer → Bool → ℕ
 readAddress p b a16 = cond (b .used) (nextAddress (p .size) (withA16 p a16 (b .address))) (withA16 p a16 (b .address))
 
--- it becomes "n, unused" at the second address byte's ninth rise; a data byte stored or dropped makes it "its address, used"
--- at the ninth rise
+-- the buffer after the ninth rise of a byte that came in as v: the second address byte completes an address, not yet used; a data
+-- byte, written or dropped, leaves its own address, used; word and first address byte change nothing
 abbrev pub fieldBuffer : Part → AddressBuffer → Field → ℕ → AddressBuffer
 fieldBuffer p b Word v = b
 fieldBuffer p b (HighByte a16) v = b
 fieldBuffer p b (LowByte a16 high) v = record { address = addressOfBytes p a16 high v; used = false }
 fieldBuffer p b (Data a) v = record { address = a; used = true }
 
--- the buffer after a rise of SCL; a data byte read makes it "its address, used" at the ninth
+-- the buffer after a rise of SCL: only the ninth of a byte changes it, and a byte that went out leaves its own address, used
 abbrev pub bufferAfter : Part → AddressBuffer → Phase → AddressBuffer
 bufferAfter p b Rest = b
 bufferAfter p b Ignoring = b

@@ -1,11 +1,11 @@
--- What happens between two samples. The line is low if the sample's SDA is 0 or the part pulls. START: SCL 1 in both samples,
--- line 1 to 0. STOP: line 0 to 1. Bits enter on SCL rises.
+-- What happens between two samples (document 01, I2C rules). While SCL stays high, a fall of the line is a START and a rise of it a
+-- STOP. Where SCL changes there is a clock edge and neither of the two; a rise has the line's level in its own sample as its bit.
 use mathlib.Core.Bool.{Bool, true, false}
 use Rattle.transfer.specs.declared.levels.Levels.{Levels}
 use Rattle.transfer.specs.declared.edge.Edge.{Edge}
 use Rattle.transfer.specs.declared.edge.Edge.the-variants.{Start, Stop, Rise, Fall, Quiet}
 
--- SDA as others drive it, and whether the part pulls
+-- SDA without the part's pull, and whether it pulls: the line is high only if nobody holds it low
 abbrev pub lineOf : Bool → Bool → Bool
 lineOf sda true = false
 lineOf sda false = sda
@@ -20,6 +20,6 @@ edgeOn true false a b = Fall
 edgeOn false true a b = Rise b
 edgeOn false false a b = Quiet
 
--- the part's pull changes on SCL falls only, so both samples see the pull from before
+-- with the pull from before in both samples: it changes only at a fall of SCL, where the line does not matter
 abbrev pub edgeOf : Bool → Levels → Levels → Edge
 edgeOf pulling a b = edgeOn (a .scl) (b .scl) (lineOf (a .sda) pulling) (lineOf (b .sda) pulling)

@@ -1,4 +1,4 @@
--- I2C sample: bit 0 SCL, 1 SDA as others drive it, 2 WP.
+-- The levels in an I2C sample, from its lowest bit up: SCL, SDA without the part's own pull, WP. A 1 is high.
 use Prim.Native.Nat.{ℕ, _/_, _%_}
 use lib.Dec.{eqb}
 use Rattle.transfer.specs.declared.levels.Levels.{Levels}

@@ -1,4 +1,4 @@
--- What a rise of SCL makes of the phase. Eight bits make a byte; the ninth clock acknowledges.
+-- What a rise of SCL makes of the phase. A byte takes nine rises: eight bits, most significant first, and its acknowledge.
 use Prim.Native.Nat.{ℕ, _+_}
 use mathlib.Core.Bool.{Bool, cond}
 use lib.Dec.{ltb}
@@ -15,14 +15,15 @@ use Rattle.transfer.specs.declared.phase.Phase.the-variants.{Rest, Ignor
 use Rattle.transfer.specs.Word.{wordOf}
 use Rattle.transfer.specs.Buffer.{addressOfBytes, readAddress}
 
--- after a write word two address bytes follow; a read word sends from the buffer; after another word the part waits for START
--- or STOP
+-- the phase after the ninth rise of a word: after its write word the part takes in an address, after its read word it sends from
+-- where the buffer says, and after any other it ignores the bus until START or STOP
 abbrev pub phaseAfterWord : Part → AddressBuffer → DeviceWord → Phase
 phaseAfterWord p b (ReadWord a16) = Sending (readAddress p b a16) 0
 phaseAfterWord p b (WriteWord a16) = Taking (HighByte a16) 0 0
 phaseAfterWord p b OtherWord = Ignoring
 
--- the phase after the ninth rise of a byte that came in as v; a data byte's address goes up and rolls over
+-- the phase after the ninth rise of a byte that came in as v: after the two address bytes comes data, and the next data byte is for
+-- the next address, which is 0 after the top
 abbrev pub phaseAfterByte : Part → ℕ → AddressBuffer → Field → ℕ → Phase
 phaseAfterByte p pins b Word v = phaseAfterWord p b (wordOf p pins v)
 phaseAfterByte p pins b (HighByte a16) v = Taking (LowByte a16 v) 0 0
@@ -33,7 +34,8 @@ phaseAfterByte p pins b (Data a) v = Taking (Data (nextAddress (p .size) a)) 0 0
 abbrev pub afterTaken : Part → ℕ → AddressBuffer → Field → ℕ → ℕ → Bool → Phase
 afterTaken p pins b f n v line = cond (ltb n 8) (Taking f (n + 1) (shifted v line)) (phaseAfterByte p pins b f v)
 
--- one rise more of a byte that goes out: a master's low at the ninth rise asks for the next byte; high ends the transfer
+-- one rise more of a byte that goes out. With the line low at the ninth, the byte at the next address follows, 0 after the top; with
+-- the line high there, the master wants no more, and the part ignores the bus until START or STOP
 abbrev pub afterSent : Part → ℕ → ℕ → Bool → Phase
 afterSent p a n line = cond (ltb n 8) (Sending a (n + 1)) (cond line Ignoring (Sending (nextAddress (p .size) a) 0))
 

@@ -24,7 +24,7 @@ PhaseIn p Ignoring = Unit {0}
 PhaseIn p (Taking f n v) = FieldIn p f × (n ≤ 8) × (v < 2 ^ n)
 PhaseIn p (Sending a n) = (a < p .size) × (n ≤ 8)
 
--- a part of the table, address pins that it can have, and a buffer that holds an address of it
+-- constants that fit, address pins that the part can have, and a buffer that holds an address of it
 pub record Placed (p : Part) (pins : ℕ) (b : AddressBuffer) : Type 0 where
   pub fit : Fit p
   pub wired : pins < p .pins

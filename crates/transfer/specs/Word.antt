@@ -1,5 +1,5 @@
--- The word is 1010, then A2 A1 A0 (part 3) or A2 A1 A16 (part 4), then R/W. Another word, 00001xxx of HS mode and F8h included
--- (F8h: house, as sleep is left out), is not the part's.
+-- The device address word: from the top 1010, the pins A2 A1 A0 or, on part 4, A2 A1 with A16 below them, and R/W, 1 to read. No
+-- other is the part's: not 00001xxx, which asks for high-speed mode, nor F8h (own choice, since I2C sleep is not modelled).
 use Prim.Native.Nat.{ℕ, _+_, _/_, _%_}
 use mathlib.Core.Bool.{Bool, false, cond}
 use lib.Dec.{eqb}

@@ -28,7 +28,7 @@ stopped steps rest n cells = stopping (madeOf 0 0 0) 4096 (suc (length steps)) s
 
 unfoldable pub runCases : List Case
 runCases =
-    -- a run tests 1 to 3 first, even for an empty trace and quota 0
+    -- 1 to 3 are tested even though there is no byte to look at and no event is allowed
     atOnce (unpowered 5 0 cleared) 4096 1
     ∷ atOnce (unpowered 0 0 (withWel cleared true)) 4096 2
     ∷ atOnce (unpowered 0 0 cleared) 4097 3
@@ -77,7 +77,7 @@ statusCases =
     ∷ atWel (sample 10 2 ++ sample 26 1)
     -- the bit is SI in the sample in which SCK rises
     ∷ onPart0 (spiOn ++ selected 24 (spelled lateIn 0x06 0 8) ++ rdsr 0x02) []
-    -- power on with CS# 0: the bus is ignored until CS# has been 1
+    -- CS# is low at power on: the part ignores the bus until it has been high
     ∷ onPart0 (step (1 ∷ 24 ∷ []) 2 ++ sent 24 (0x05 ∷ 0 ∷ []) ++ sample 27 2 ++ sample 25 2 ++ rdsr 0x00) []
     -- the bits over a power cut: lost on part 0, saved on parts 1 and 2
     ∷ onPart0 (spiOn ++ wrsr 0x8c ++ rdsr 0x8c ++ powerOff ++ spiOn ++ rdsr 0x00) []
@@ -180,9 +180,9 @@ late b = sample (2 * bit b) 2 ++ sample (2 * bit (not b)) 2 ++ sample (2 * bit b
 
 unfoldable pub transferCases : List Case
 transferCases =
-    -- 00001xxx of HS mode and F8h are not the part's
+    -- 00001xxx, which asks for high-speed mode, and F8h are not the part's
     onPart3 (word 0x08 2 ++ stop ++ word 0xf8 2) []
-    -- SDA that changes while SCL is low, and in the sample in which SCL rises, is no START and no STOP: the bit is the line then
+    -- SDA changes while SCL is low, and in the sample in which SCL rises: neither is START or STOP, and the bit is the line then
     ∷ onPart3 (start ++ spelled late 0xa0 0 8 ++ clock true 0) []
     ∷ onPart3 (start ++ spelled late 0xa1 0 8 ++ clock true 0) []
     -- part 4, A16 1: a write and a read
@@ -203,7 +203,7 @@ transferCases =
     ∷ onPart3 (put 0xa0 (two 0x0f) (0x5a ∷ []) ++ stop ++ got 0xa1 [] 0x77) (cell 0x0f 0x5a ∷ [])
     -- WP 1 at the ninth rise: acknowledged and dropped
     ∷ onPart3 (put 0xa0 (two 0x10) [] ++ spelled taken 0x5a 0 8 ++ sample 6 0 ++ sample 7 0 ++ stop) []
-    -- high at the master's ninth clock ends the transfer: the part sends no more
+    -- the master leaves the line high at the ninth clock: the part sends no more
     ∷ onPart3 (put 0xa0 (two 0x10) [] ++ word 0xa1 0 ++ given true 0x77 ++ byte 0xff 2) []
     ∷ []
 

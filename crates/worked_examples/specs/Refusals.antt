@@ -194,7 +194,7 @@ pub record Making : Type 0 where
 abbrev pub making : ℕ → ℕ → ℕ → Making
 making part pins bits = record { part = part; pins = pins; bits = bits }
 
--- number 1 and the unpowered model of part 0 with zero pins and bits
+-- it gives number 1, and part 0 without power, pins and bits 0
 abbrev pub MakingRefused : Making → Type 0
 MakingRefused x = makeOf (x .part) (x .pins) (x .bits) ≡ record { number = 1; model = unpowered 0 0 cleared }
 

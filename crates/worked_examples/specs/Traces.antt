@@ -135,11 +135,11 @@ byte v a = spelled taken v 0 8 ++ clock true a
 abbrev pub word : ℕ → ℕ → List Step
 word v a = start ++ byte v a
 
--- a byte that the part sends, with SDA at the ninth clock: low asks for the next byte, high ends the transfer
+-- a byte that the part sends, with SDA at the ninth clock: high after the last byte, low before another
 abbrev pub given : Bool → ℕ → List Step
 given last v = spelled pulled v 0 8 ++ clock last 2
 
--- a write word, two address bytes and data, all acknowledged
+-- a write word, the bytes of an address and data bytes, all acknowledged
 abbrev pub put : ℕ → List ℕ → List ℕ → List Step
 put w address vs = word w 0 ++ each (λ v. byte v 0) (address ++ vs)
 
