@@ -1,5 +1,5 @@
--- The run rule: a run of j events, then one of k on the rest, equals one run of j + k, counts and offsets added, if the first is
--- not refused. From the laws of a run. Assumes nothing.
+-- The run rule: a run of j events that is not refused, and one of k on what it left of the trace, from its state and memory, are
+-- together one run of j + k. From the laws of a run. Assumes nothing.
 use Prim.Native.Nat.{ℕ, suc, _+_}
 use mathlib.Core.Path.{_≡_, refl, sym, _∙_}
 use mathlib.Core.List.{List}

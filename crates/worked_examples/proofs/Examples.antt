@@ -1,4 +1,4 @@
--- Document 01's examples 1 to 11 hold, by one statement over one list. Computed. Assumes nothing.
+-- Document 01's examples 1 to 11 hold, all by a single theorem on the list of them. Computed. Assumes nothing.
 use Prim.Native.Nat.{ℕ}
 use mathlib.Core.Path.{_≡_, refl}
 use mathlib.Core.Bool.{true}

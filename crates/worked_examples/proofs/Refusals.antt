@@ -39,7 +39,7 @@ events-tested : (g : ℕ → ℕ) → map (eventGiven g) refusals ≡ map eventW
 unfolding refusals checkOf readOf makeOf
 events-tested g = refl
 
--- a refused event gives its number, answer 2, the given state and the given memory
+-- each event of the list is refused with its number: it answers 2, and state and memory are as they were
 pub refused-events : Every EventRefused refusals
 refused-events = events-refused refusals events-tested
 
@@ -106,6 +106,6 @@ makings-tested : map makingGiven refusedMakings ≡ map makingWanted refusedMaki
 unfolding refusedMakings makeOf
 makings-tested = refl
 
--- a refused making gives 1 and the unpowered model of part 0 with zero pins and bits
+-- each making of the list is refused with 1, and gives part 0 without power, pins and bits 0
 pub refused-makings : Every MakingRefused refusedMakings
 refused-makings = makings-refused refusedMakings makings-tested

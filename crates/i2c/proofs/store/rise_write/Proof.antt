@@ -1,4 +1,4 @@
--- `rise_write` meets its contract: a data byte is written at its ninth rise if WP is 0. Assumes nothing.
+-- `rise_write` meets its contract: only the ninth rise of a data byte writes, and only with WP low. Assumes nothing.
 use mathlib.Core.Path.{sym}
 use native.Mathlib.Omega.{arith}
 use Rattle.serial.proofs.BitLaws.{small}
