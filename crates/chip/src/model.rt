@@ -5,7 +5,7 @@ use i2c::sample::I2c;
 use parts::status::Status;
 use spi::sample::Spi;
 
-// What the bus is waiting for.
+// No power, or the part's bus under power with what it keeps between samples, its phase included.
 pub enum BusState {
     Unpowered,
     SpiOn { spi: Spi },

@@ -1,10 +1,10 @@
-// A program that runs the raw bytes of standard input on a part: reads, shows, prints.
+// A program that takes standard input as a trace and runs it on a part: reads, shows, prints.
 ghost use mathlib.Core.Path.{_≡_};
 ghost use Rattle.report.specs.Report.{memoryAfterRun};
 use libc::STDIN_FILENO;
 use libc::STDOUT_FILENO;
 
-// The answers of the accepted events, 64 to a line, then number, count and offset.
+// Prints the answers of the accepted events, then number, count and offset on a line of their own.
 pub fn serve(part: u32, memory: &mut [u8]) {
     let mut input = [0u8; 65537];
     let length = io::read_full(STDIN_FILENO, &mut input);

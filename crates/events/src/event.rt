@@ -28,7 +28,7 @@ fn accept(answer: Answer, model: Model) -> Answered
     }
 }
 
-// A refused event gives its number, answer 2 and the given state.
+// A refusal has its number, drives nothing and leaves the state as it was.
 pub fn refuse(refusal: Refusal, model: Model) -> Answered
     ensures { λ r. ⌜ r ≡ refused refusal model ⌝ }
 {
@@ -39,7 +39,7 @@ pub fn refuse(refusal: Refusal, model: Model) -> Answered
     }
 }
 
-// An expected answer is compared with the present one.
+// An expected answer: refused with 9 unless it is the present one.
 fn expect(model: Model, present: Answer, value: u8) -> Answered
     ensures { λ r. ⌜ r ≡ expected model present value ⌝ }
 {

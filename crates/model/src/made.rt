@@ -5,7 +5,7 @@ ghost use Rattle.runs.specs.Run.{ranOf};
 ghost use Rattle.model.specs.MadeRun.{madeRun};
 use runs::run::Ran;
 
-// A refused making gives its number and what it made, and runs nothing.
+// If the making is refused nothing is run: its number and its model come back, with count and offset 0.
 pub fn replay_made(
     part: u32,
     pins: u32,

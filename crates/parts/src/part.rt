@@ -1,4 +1,4 @@
-// The five parts: the one constant table that every layer reads.
+// The five parts: a constant table with all that differs from part to part.
 ghost use mathlib.Core.Path.{_≡_};
 ghost use Prim.Native.Nat.{_<_};
 ghost use Rattle.parts.specs.Table.{isSpi, partOf};

@@ -3,23 +3,23 @@ ghost use mathlib.Core.Path.{_≡_};
 ghost use Rattle.parts.specs.Numbers.{refusalNumber};
 
 pub enum Refusal {
-    // part, address pins or saved bits out of range
+    // 1: no such part, or pins or saved bits that it cannot have
     ModelRange,
-    // a state number out of its range
+    // 2: something else in the state is out of its range
     StateRange,
-    // the memory's length is not the part's size
+    // 3: the memory is longer or shorter than the part's
     MemoryLength,
-    // kind unknown, or of the other bus
+    // 4: no such kind, or the power on of the other bus
     UnknownKind,
-    // the trace ends inside the event
+    // 5: the event's bytes are not all there
     Truncated,
-    // sample, start address or expected value out of range
+    // 6: a sample, start address or expected answer too large
     FieldRange,
-    // no power
+    // 7: an event that needs power, without it
     Unpowered,
-    // power is on already
+    // 8: a power on under power
     Powered,
-    // the present answer is not the expected one
+    // 9: the part answers something else than expected
     Unexpected,
 }
 

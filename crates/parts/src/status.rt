@@ -42,7 +42,7 @@ impl Status {
         2 * bit_of(self.bp1) + bit_of(self.bp0)
     }
 
-    // The first protected address.
+    // The first protected address, or the size if none is protected.
     pub fn protected_start(self, part: Part) -> u32
         ensures { λ r. ⌜ r ≡ protectedStart self part ⌝ }
     {

@@ -1,4 +1,4 @@
-// Power on and power off.
+// What power on makes of each bus, and what power off leaves of the status register.
 ghost use mathlib.Core.Path.{_≡_};
 ghost use Rattle.power.specs.Power.{spiStart, i2cStart, keptStatus};
 use i2c::sample::I2c;
@@ -8,7 +8,7 @@ use parts::status::Status;
 use spi::sample::Spi;
 use transfer::buffer::AddressBuffer;
 
-// An SPI part at power on: it ignores the bus until CS# has been 1.
+// An SPI part at power on: awake, and if CS# is low it ignores the bus until CS# has been high.
 pub fn spi_start(levels: selection::levels::Levels) -> Spi
     ensures { λ r. ⌜ r ≡ spiStart levels ⌝ }
 {
@@ -45,7 +45,7 @@ pub fn i2c_start(levels: transfer::levels::Levels, start: u32) -> I2c
     }
 }
 
-// The status register after power off.
+// The status register after power off: SRWD, BP1 and BP0 stay on a part that saves them.
 pub fn kept_status(part: Part, status: Status) -> Status
     ensures { λ r. ⌜ r ≡ keptStatus part status ⌝ }
 {

@@ -20,8 +20,8 @@ fn no_answers() -> [u8; 65536]
     [0; 65536]
 }
 
-// Runs a trace on a part with address pins 0 and saved bits 0, and writes the text of the answers to the front of out, as far
-// as there is room.
+// Runs a trace on a part made with pins and bits 0, and writes the text of the answers to the front of out, as far as there is
+// room.
 pub fn show(part: u32, trace: &[u8], memory: &mut [u8], out: &mut [u8]) -> Report
     ensures report { λ r. ⌜ r ≡ reportOf part (now (trace .entry)) (now (memory .entry)) ⌝ }
     ensures memory { λ r. ⌜ now (memory .exit) ≡ memoryAfterRun part (now (trace .entry)) (now (memory .entry)) ⌝ }

@@ -5,7 +5,7 @@ ghost use Rattle.chip.specs.Check.{Sound};
 ghost use Rattle.runs.specs.Run.{ran, ranOf, loopOf};
 use chip::model::Model;
 
-// Number or 0, state, count of accepted events, and the offset of the first kind byte not accepted.
+// Number or 0, state, how many events are accepted, and how many bytes of the trace these take.
 pub struct Ran {
     pub number: u8,
     pub model: Model,

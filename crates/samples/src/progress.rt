@@ -8,7 +8,7 @@ use chip::model::BusState;
 use chip::model::Model;
 use parts::status::Status;
 
-// State, accepted events, and the offset of the first kind byte not accepted.
+// State, how many events are accepted, and how many bytes of the trace these take.
 pub struct Progress {
     pub model: Model,
     pub count: usize,

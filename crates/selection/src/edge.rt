@@ -1,4 +1,4 @@
-// What happens between two samples.
+// What happens between two samples: a selection begins or ends, or SCK has an edge that counts.
 ghost use mathlib.Core.Path.{_≡_};
 ghost use Rattle.selection.specs.Edge.{edgeOf, clockEdge};
 use crate::levels::Levels;

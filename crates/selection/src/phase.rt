@@ -1,4 +1,4 @@
-// What an SPI part is waiting for, one case for each phase with that phase's own numbers.
+// The phases of an SPI part, which say what it waits for, each with the numbers that it needs.
 ghost use mathlib.Core.Path.{_≡_};
 ghost use Rattle.selection.specs.Phase.{width};
 use parts::part::Part;
@@ -36,7 +36,7 @@ pub enum Action {
 pub enum Phase {
     // no selection
     Rest,
-    // ignores the bus until the next selection: no answer and no effect until CS# rises (document 01: deaf)
+    // ignores the bus until CS# rises: drives, stores and sets nothing (document 01: deaf)
     Ignoring,
     // count bits of a field are in, and make value
     Taking { field: Field, count: u8, value: u32 },

@@ -1,4 +1,4 @@
-// An address goes up by one and rolls over from the top to 0.
+// The next address: one up, and 0 after the top.
 ghost use mathlib.Core.Path.{_≡_};
 ghost use Prim.Native.Nat.{_<_};
 ghost use Rattle.serial.specs.Address.{nextAddress};

@@ -9,7 +9,7 @@ use selection::phase::Field;
 use selection::phase::Phase;
 use serial::write::Write;
 
-// A whole data byte of WRITE, if WEL is 1 and its address is not protected.
+// A whole data byte of WRITE, which is written with WEL set and below the protected start.
 fn permit(part: Part, status: Status, address: u32, value: u8) -> Write
     ensures { λ r. ⌜ r ≡ permitted part status address value ⌝ }
 {

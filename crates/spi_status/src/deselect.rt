@@ -1,4 +1,4 @@
-// What CS# rising does.
+// What CS# rising does to the status register and to sleep.
 ghost use mathlib.Core.Path.{_≡_};
 ghost use Rattle.spi_status.specs.Deselect.{takenStatus, writtenStatus, actionStatus, fieldStatus, statusAfter, isSleep, sleeps, asleepAfter};
 use parts::status::Status;
@@ -18,7 +18,7 @@ fn taken_status(byte: u8) -> Status
     }
 }
 
-// WRSR with a whole data byte, with WP# as it is when CS# rises.
+// The end of a WRSR that had its first data byte, with WP# as the sample has it in which CS# rises.
 fn written_status(status: Status, wp: bool, byte: u8) -> Status
     ensures { λ r. ⌜ r ≡ writtenStatus status wp byte ⌝ }
 {

@@ -10,7 +10,7 @@ use chip::model::Model;
 use parts::part::Part;
 use trace::read::Read;
 
-// Number or 0, state, and the offset of the first kind byte not accepted.
+// Number or 0, state, and how many bytes of the trace the accepted events take.
 pub struct Other {
     pub number: u8,
     pub model: Model,

@@ -22,7 +22,7 @@ pub fn address_of_bytes(part: Part, a16: bool, high: u8, low: u8) -> u32
     (65536 * top + 256 * high as u32 + low as u32) % part.size
 }
 
-// An address with bit 16 replaced by A16 of the word.
+// An address with A16 for its bit 16, where the word carries A16.
 fn with_a16(part: Part, a16: bool, address: u32) -> u32
     requires { ⌜ Fit part × (address < part .size) ⌝ }
     ensures { λ r. ⌜ (r ≡ withA16 part a16 address) × (r < part .size) ⌝ }

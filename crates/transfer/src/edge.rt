@@ -1,4 +1,4 @@
-// What happens between two samples.
+// What happens between two samples: START, STOP or an edge of SCL.
 ghost use mathlib.Core.Path.{_≡_};
 ghost use Rattle.transfer.specs.Edge.{lineOf, edgeOn, edgeOf};
 use crate::levels::Levels;
@@ -13,7 +13,7 @@ pub enum Edge {
     Quiet,
 }
 
-// The line: low if SDA is 0 or the part pulls.
+// The line's level: high only if nobody holds it low, neither the part nor the others.
 fn line_of(sda: bool, pulling: bool) -> bool
     ensures { λ r. ⌜ r ≡ lineOf sda pulling ⌝ }
 {

@@ -1,4 +1,4 @@
-// The levels of one sample: SDA as others drive it.
+// The levels of one sample; SDA is without the part's own pull.
 ghost use mathlib.Core.Path.{_≡_};
 ghost use Rattle.transfer.specs.Levels.{levelsOf};
 

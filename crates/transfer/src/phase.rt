@@ -1,4 +1,4 @@
-// What an I2C part is waiting for, one case for each phase with that phase's own numbers.
+// The phases of an I2C part, which say what it waits for, each with the numbers that it needs.
 
 // The byte that comes in.
 pub enum Field {
