@@ -10,27 +10,28 @@
  *   3     MR44V064B   I2C  8,192            0 to 7, A2 A1 A0  0
  *   4     MS85RC1MTY  I2C  131,072          0 to 3, A2 A1     0
  *
- * A trace is a row of events, each one byte of kind and a body whose length the kind fixes:
+ * A trace is a row of events with nothing between them. The first byte of each is its kind:
  *
- *   01 sample                SPI power on
- *   02 sample, 3 bytes       I2C power on, with the start address, most significant byte first
+ *   01 sample                power on of an SPI part
+ *   02 sample, 3 bytes       power on of an I2C part, and the start address, high byte first
  *   03                       power off
  *   04 sample                the wires' next sample
  *   05 answer                the answer that is expected now
  *
- *   SPI sample: bit 0 CS#, 1 SCK, 2 SI, 3 WP#, 4 HOLD#. I2C sample: bit 0 SCL, 1 SDA as others
- *   drive it, 2 WP. Answers: 0 low, 1 high, 2 nothing driven.
+ *   A sample has the levels of the wires, 1 for high, from the lowest bit up: CS#, SCK, SI, WP#
+ *   and HOLD# on SPI; SCL, SDA without the part's own pull, and WP on I2C. The other bits are 0.
+ *   Answers: 0 low, 1 high, 2 nothing driven.
  *
  * Both functions return 0, or the first of these numbers that holds:
  *
- *   1  part, address pins or saved bits out of range
- *   3  memory_length is not the part's size
- *   4  kind unknown, or 01 on I2C, or 02 on SPI
- *   5  the trace ends inside the event
- *   6  sample, start address or expected answer out of range
- *   7  no power, and the event is 03, 04 or 05
- *   8  power is on, and the event is 01 or 02
- *   9  the present answer is not the expected one
+ *   1  no such part, or pins or saved bits that it cannot have
+ *   3  memory_length is more or less than the part has
+ *   4  no such kind, or the power on of the other bus
+ *   5  the event's bytes are not all there
+ *   6  a sample or expected answer too large, or a start address not below the part's size
+ *   7  anything but a power on, without power
+ *   8  a power on, under power
+ *   9  the part answers something else than expected
  *
  * 1 and 3 are tested first, whatever the trace and the quota; the memory is then untouched, and
  * count and offset are 0. With 4 to 9 the events before the refused one stand.
@@ -52,11 +53,11 @@ extern "C" {
 
 /*
  * Makes a model of part, address pins and saved bits, without power, and runs the trace on the
- * lent memory until `quota` events are accepted, the trace ends or an event is refused.
+ * lent memory: at most `quota` events, up to the end of the trace or to one that is refused.
  *
- * A result of exactly 16 bytes gets the count of accepted events and the offset of the first kind
- * byte not accepted, eight bytes each, most significant first. A result of another length is left
- * as it is.
+ * A result of exactly 16 bytes gets two numbers of eight bytes, high byte first: the count, which
+ * is how many events were accepted, and the offset, which is how many bytes these take. A result
+ * of another length is left as it is.
  */
 uint8_t sildrokk_run(uint32_t part, uint32_t pins, uint32_t bits, uint64_t quota,
                      const uint8_t *trace, size_t trace_length,

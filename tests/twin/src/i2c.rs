@@ -36,15 +36,15 @@ pub struct I2c {
     pins: u8,
     old: u8,
     pull: bool,
-    /// The address buffer: n, and whether n was used.
+    /// The address buffer: its address, and whether that has been used.
     n: u32,
     used: bool,
-    /// None while the part rests or waits for START or STOP.
+    /// None while the part rests or ignores the bus.
     span: Option<Span>,
 }
 
 impl I2c {
-    /// At power on the part rests, and the buffer is "start address, unused".
+    /// The part comes up at rest, with the start address in its buffer, unused.
     pub fn power_on(part: &'static Part, pins: u8, sample: u8, start: u32) -> I2c {
         I2c {
             part,
@@ -81,12 +81,12 @@ impl I2c {
         self.answer()
     }
 
-    /// The line is low if the sample's SDA is 0 or the part pulls.
+    /// The line's level: high only if neither the others nor the part hold it low.
     fn line(&self, sample: u8) -> bool {
         sample & SDA != 0 && !self.pull
     }
 
-    /// START releases the line, drops unfinished bits and awaits a word.
+    /// After START the part lets go of the line, forgets a byte under way and takes in a word.
     fn start(&mut self) {
         self.pull = false;
         self.span = Some(Span {
@@ -99,13 +99,13 @@ impl I2c {
         });
     }
 
-    /// STOP releases the line, drops unfinished bits and rests.
+    /// After STOP the part lets go of the line, forgets a byte under way and rests.
     fn stop(&mut self) {
         self.pull = false;
         self.span = None;
     }
 
-    /// Bits enter on SCL rises.
+    /// A rise of SCL, with the line's level as its bit.
     fn rise(&mut self, new: u8, memory: &mut [u8]) {
         let line = self.line(new);
         let Some(span) = &mut self.span else { return };
@@ -122,8 +122,8 @@ impl I2c {
         }
     }
 
-    /// The word: 1010, then A2 A1 A0 (part 3) or A2 A1 A16 (part 4), then R/W. Another word gets
-    /// no acknowledge and the part waits for START or STOP.
+    /// The device address word: 1010, three bits (A2 A1 A0 on part 3, A2 A1 A16 on part 4), R/W. If
+    /// it is not the part's, the part ignores the bus from here on.
     fn word(&mut self) {
         let Some(span) = &mut self.span else { return };
         let word = span.byte;
@@ -148,7 +148,7 @@ impl I2c {
     fn ninth_rise(&mut self, line: bool, wp: bool, memory: &mut [u8]) {
         let Some(span) = &mut self.span else { return };
         match (span.asked, span.bytes) {
-            // A read word. For part 4, bit 16 of n is first replaced by A16 of the word. It shows
+            // A read word. On part 4 its A16 takes the place of the buffer's bit 16, which shows
             // only here, since each read word replaces it and each address sets it anew.
             (Asked::Read, 1) if self.part.number == 4 => {
                 self.n = span.a16 << 16 | self.n & 0xffff;
@@ -167,7 +167,7 @@ impl I2c {
                     memory[address] = byte;
                 }
             }
-            // A byte read: the master's low asks for the next, high ends the transfer.
+            // A byte read: with the line high here the master wants no more.
             (Asked::Read, _) => {
                 if line {
                     self.span = None;
@@ -189,12 +189,13 @@ impl I2c {
         }
     }
 
-    /// The address of the data byte under way: n if unused, else n + 1, rolled over.
+    /// The address of the data byte under way: the buffer's if unused, else the next, which after
+    /// the top is 0.
     fn next(&self) -> usize {
         self.part.wrap(u64::from(self.n) + u64::from(self.used))
     }
 
-    /// A data byte stored, dropped or read makes the buffer "its address, used".
+    /// A data byte, whether stored, dropped or sent, leaves its address in the buffer, used.
     fn use_next(&mut self) -> usize {
         let address = self.next();
         self.n = address as u32;

@@ -9,7 +9,7 @@ use crate::part::{i2c_pin, spi_pin, Op, Part, Wires, PARTS};
 enum Mark {
     Wren,
     Wrdi,
-    /// A WRITE or WRSR with a whole data byte.
+    /// A WRITE or WRSR that had a whole data byte.
     Data,
 }
 
@@ -39,8 +39,8 @@ pub struct Ledger {
 }
 
 impl Ledger {
-    /// The bytes before the first event and the bits made. A refused making counts as that of
-    /// part 0 with zero pins and bits.
+    /// It begins with the memory as it is before any event and the bits of the making; one that is
+    /// refused makes part 0, with pins and bits 0.
     pub fn begin(part: u32, pins: u32, bits: u32, memory: &[u8]) -> Ledger {
         let known = PARTS.get(part as usize);
         let made = known.filter(|part| pins <= part.max_pins && bits <= part.max_bits);
@@ -70,7 +70,7 @@ impl Ledger {
         self.bits
     }
 
-    /// The bits after a cut: without power it changes nothing, else part 0 loses them.
+    /// The bits after a cut, which without power does nothing; under power part 0 loses them.
     pub fn bits_after_cut(&self) -> u8 {
         if self.since.is_some() && !self.part.keeps_bits {
             0
@@ -109,7 +109,7 @@ impl Ledger {
         let running = |sample: u8| sample & (CS | HOLD) == HOLD;
         let high = |sample: u8| sample & SCK != 0;
         if !selected(old) && selected(new) {
-            // The selection after a whole SLEEP counts as none.
+            // A selection that follows SLEEP is left out.
             let none = std::mem::take(&mut since.slept);
             since.open = (!none).then(Vec::new);
         } else if selected(old) && !selected(new) {
@@ -204,7 +204,7 @@ impl Ledger {
         }
     }
 
-    /// A byte became whole with WP 0: if it is data after the part's write word, it is written.
+    /// A byte became whole with WP 0: it is written if it is data behind a write word of the part.
     fn span_grew(&mut self) {
         let Some(bits) = self.since.as_ref().and_then(|since| since.open.as_ref()) else {
             return;
@@ -235,13 +235,13 @@ impl Ledger {
 }
 
 impl Since {
-    /// A whole WREN came with no whole WRDI and no WRITE or WRSR with a whole data byte after it.
+    /// WREN was the last of the commands that decide it.
     fn enabled(&self) -> bool {
         self.marks.last() == Some(&Mark::Wren)
     }
 }
 
-/// The line is low at a sample with SDA 0 or answer 0.
+/// The line's level: high only if SDA is 1 and the part does not pull, by its answer.
 fn line(sample: u8, answer: u8) -> bool {
     sample & i2c_pin::SDA != 0 && answer != 0
 }

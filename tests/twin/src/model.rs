@@ -30,7 +30,7 @@ pub struct Ran {
     pub number: u8,
     /// Accepted events.
     pub count: u64,
-    /// Offset of the first kind byte not accepted.
+    /// The bytes that the accepted events take.
     pub offset: u64,
 }
 
@@ -45,7 +45,7 @@ enum Event {
 }
 
 impl Model {
-    /// Number 1: part, address pins or saved bits out of range; the model is then that of part 0.
+    /// Number 1 for what the table does not allow; the model is then that of part 0.
     pub fn make(part: u32, pins: u32, bits: u32) -> (u8, Model) {
         let known = PARTS.get(part as usize);
         match known.filter(|part| pins <= part.max_pins && bits <= part.max_bits) {
@@ -115,8 +115,8 @@ impl Model {
         self.run_each(trace, quota, memory, |answer| answers.push(answer))
     }
 
-    /// A trace run that hands each answer on. It stops when the quota is used, the trace ends or
-    /// an event is refused, and tests the memory first, whatever the trace and the quota.
+    /// A trace run that hands each answer on: events up to the quota, up to the end, or up to one
+    /// that is refused. The memory is tested first, whatever the trace and the quota.
     pub fn run_each(
         &mut self,
         trace: &[u8],
@@ -210,7 +210,7 @@ fn read(part: &Part, bytes: &[u8]) -> Result<(Event, usize), u8> {
             in_range((start as usize) < part.size)?;
             Ok((Event::I2cOn(sample, start), 5))
         }
-        // A kind that the bus has, and the trace ends inside its event.
+        // A kind that the bus has, without all of its bytes.
         (&[4 | 5, ..], _) | (&[1, ..], Wires::Spi) | (&[2, ..], Wires::I2c) => Err(5),
         _ => Err(4),
     }

@@ -1,6 +1,6 @@
 //! "The five parts": the one constant table, the SPI codes and the bits of a sample.
 
-/// SPI sample: bit 0 CS#, 1 SCK, 2 SI, 3 WP#, 4 HOLD#; 0 to 31.
+/// The bits of an SPI sample.
 pub mod spi_pin {
     pub const CS: u8 = 1;
     pub const SCK: u8 = 2;
@@ -9,7 +9,7 @@ pub mod spi_pin {
     pub const HOLD: u8 = 16;
 }
 
-/// I2C sample: bit 0 SCL, 1 SDA as others drive it, 2 WP; 0 to 7.
+/// The bits of an I2C sample; SDA is without the part's own pull.
 pub mod i2c_pin {
     pub const SCL: u8 = 1;
     pub const SDA: u8 = 2;
@@ -139,7 +139,7 @@ pub static PARTS: [Part; 5] = [
 ];
 
 impl Part {
-    /// "An address counts modulo the size."
+    /// Addresses are taken modulo the size.
     pub fn wrap(&self, address: u64) -> usize {
         address as usize & (self.size - 1)
     }

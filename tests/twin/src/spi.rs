@@ -7,7 +7,7 @@ use crate::{HIGH, LOW, NOTHING};
 /// A selection, told by its counted rises.
 #[derive(Clone, Debug, PartialEq, Eq)]
 struct Selection {
-    /// No answer and no effect until the next selection.
+    /// The part drives, stores and sets nothing until CS# rises.
     ignoring: bool,
     /// n: the counted rises so far.
     rises: u64,
@@ -15,7 +15,7 @@ struct Selection {
     byte: u8,
     /// Known from the eighth rise on.
     op: Option<Op>,
-    /// h: the rises before output starts, for the commands that have output.
+    /// h: the rises before the output, for the commands that have one.
     h: Option<u64>,
     /// The address as it was sent.
     address: u64,
@@ -53,7 +53,7 @@ pub struct Spi {
 }
 
 impl Spi {
-    /// Power on clears WEL and sleep; with CS# 0 the part ignores the bus until CS# has been 1.
+    /// The part comes up awake, with WEL clear; if CS# is low it ignores the bus until CS# rises.
     pub fn power_on(part: &'static Part, bits: u8, sample: u8) -> Spi {
         Spi {
             part,
@@ -69,7 +69,7 @@ impl Spi {
         self.bits
     }
 
-    /// Held or unselected, the answer is 2; after a hold the earlier bit is shown again.
+    /// Nothing is driven while the part is held or unselected; a hold leaves the bit shown.
     pub fn answer(&self) -> u8 {
         if self.old & (CS | HOLD) == HOLD {
             self.selection.shown
@@ -78,7 +78,7 @@ impl Spi {
         }
     }
 
-    /// The next sample. A clock edge counts only if CS# is 0 and HOLD# is 1 in both samples.
+    /// The next sample. SCK counts while both samples have the part selected and not held.
     pub fn sample(&mut self, new: u8, memory: &mut [u8]) -> u8 {
         let old = std::mem::replace(&mut self.old, new);
         let changed = old ^ new;
@@ -105,7 +105,7 @@ impl Spi {
         }
     }
 
-    /// Bits enter on counted rises, most significant first.
+    /// A counted rise brings in one bit.
     fn rise(&mut self, si: bool, memory: &mut [u8]) {
         let selection = &mut self.selection;
         selection.rises += 1;
@@ -137,7 +137,7 @@ impl Spi {
         }
     }
 
-    /// After a code it lacks the part ignores the bus. Output starts after h rises.
+    /// The opcode is whole: the part ignores the bus if it lacks it, else h is known.
     fn code(&mut self, code: u8) {
         let selection = &mut self.selection;
         selection.op = self.part.op(code);
@@ -150,8 +150,8 @@ impl Spi {
         };
     }
 
-    /// At a counted fall after n rises, n at least h, the answer becomes bit
-    /// 7 - ((n - h) mod 8) of byte number (n - h) div 8.
+    /// A counted fall shows the bit that the rises since the h-th have come to, from bit 7 of the
+    /// first byte on.
     fn fall(&mut self, memory: &[u8]) {
         let selection = &self.selection;
         let Some(out) = selection.h.and_then(|h| selection.rises.checked_sub(h)) else {
@@ -169,12 +169,12 @@ impl Spi {
         };
     }
 
-    /// Status: bit 7 SRWD, 3 BP1, 2 BP0, 1 WEL, rest 0.
+    /// The byte of the status register, with SRWD on top.
     fn status(&self) -> u8 {
         (self.bits & 4) << 5 | (self.bits & 3) << 2 | u8::from(self.wel) << 1
     }
 
-    /// CS# rises. The selection after a SLEEP did nothing and wakes the part at its end.
+    /// CS# rises. If the part slept through the selection it wakes now.
     fn end_selection(&mut self, wp: bool) {
         self.asleep = false;
         let whole_data = match self.selection.op {
@@ -194,7 +194,7 @@ impl Spi {
         }
     }
 
-    /// Bits 7, 3, 2 are taken, unless SRWD is 1 and WP# is 0 as CS# rises.
+    /// WRSR's byte becomes SRWD BP1 BP0, but not while SRWD is set and WP# low as CS# rises.
     fn write_status(&mut self, wp: bool) {
         if self.bits & 4 == 0 || wp {
             let first = self.selection.first;

@@ -94,7 +94,7 @@ impl std::fmt::Display for Line {
     }
 }
 
-/// An answer as 0, 1 or Z.
+/// The letter that a program prints for an answer.
 pub fn letter(answer: u8) -> char {
     match answer {
         0 => '0',
@@ -103,7 +103,7 @@ pub fn letter(answer: u8) -> char {
     }
 }
 
-/// What the program for a part prints for its input: answers, 64 to a line, then the result.
+/// What the program for a part prints for its input: lines of 64 answers, then the result.
 pub fn program(part: u32, input: &[u8]) -> String {
     if input.len() > 65_536 {
         return "too long\n".to_string();
