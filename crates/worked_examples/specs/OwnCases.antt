@@ -1,13 +1,13 @@
 -- Cases of our own, from the sheets and from document 01's rules.
 use Prim.Native.Nat.{ℕ, suc, _+_, _*_}
-use mathlib.Core.Bool.{Bool, true, cond, not}
+use mathlib.Core.Bool.{Bool, true, false, cond, not}
 use mathlib.Core.List.{List, [], _∷_, _++_, map}
 use lib.Dec.{eqb}
 use lib.ListN.{length}
 use Rattle.parts.specs.Status.{bit, cleared, withWel}
 use Rattle.chip.specs.declared.model.Model.{Model}
 use Rattle.chip.specs.Model.{unpowered}
-use Rattle.worked_examples.specs.Traces.{Step, step, sample, powerOff, spelled, two, three, spiOn, shown, held, sent, seen, selected, command, asked, wren, wrsr, rdsr, write, read, i2cOn, clock, taken, start, stop, byte, word, given, put, got}
+use Rattle.worked_examples.specs.Traces.{Step, step, sample, powerOff, spelled, each, two, three, spiOn, entered, shown, held, sent, seen, selected, command, asked, wren, wrsr, rdsr, write, read, i2cOn, clock, taken, pulled, start, stop, byte, word, given, put, got}
 use Rattle.worked_examples.specs.Cases.{Cell, cell, Case, madeOf, made}
 use Rattle.worked_examples.specs.Examples.{onPart0}
 
@@ -57,6 +57,10 @@ lateIn b = sample (24 + 4 * bit (not b)) 2 ++ sample (24 + 4 * bit b + 2) 2
 abbrev pub atWel : List Step → Case
 atWel steps = onPart0 (spiOn ++ wren ++ selected 24 (sent 24 (0x05 ∷ []) ++ spelled shown 0x02 0 6 ++ sample 24 1 ++ steps ++ shown true ++ spelled shown 0x02 7 1)) []
 
+-- opcode and what follows it, with WP# as in w up to the end and after it, and as in u in the sample in which CS# rises
+abbrev pub risingWith : ℕ → ℕ → List ℕ → List Step
+risingWith w u vs = sample w 2 ++ sent w vs ++ sample (u + 3) 2 ++ sample (w + 1) 2
+
 unfoldable pub statusCases : List Case
 statusCases =
     -- BP 01 and BP 10, with WEL clear after WRSR and set after WREN
@@ -66,6 +70,12 @@ statusCases =
     ∷ onPart0 (spiOn ++ wren ++ command 24 (0x04 ∷ []) ++ rdsr 0x00) []
     -- WP# 0 alone does not protect the register
     ∷ onPart0 (spiOn ++ command 16 (0x06 ∷ []) ++ command 16 (0x01 ∷ 0x0c ∷ []) ++ rdsr 0x0c) []
+    -- WP# moves inside a WRSR, SRWD being 1: only its level in the sample in which CS# rises counts
+    ∷ onPart0 (spiOn ++ wrsr 0x80 ++ wren ++ risingWith 16 24 (0x01 ∷ 0x00 ∷ []) ++ rdsr 0x00) []
+    ∷ onPart0 (spiOn ++ wrsr 0x80 ++ wren ++ risingWith 24 16 (0x01 ∷ 0x00 ∷ []) ++ rdsr 0x80) []
+    -- a WRSR without WREN changes nothing, and one with a second data byte takes the first
+    ∷ onPart0 (spiOn ++ command 24 (0x01 ∷ 0x8c ∷ []) ++ rdsr 0x00) []
+    ∷ onPart0 (spiOn ++ wren ++ command 24 (0x01 ∷ 0x0c ∷ 0x80 ∷ []) ++ rdsr 0x0c) []
     -- SRWD 1 with WP# 0 does not cover memory
     ∷ onPart0 (spiOn ++ wrsr 0x80 ++ command 16 (0x06 ∷ []) ++ command 16 (0x02 ∷ 0 ∷ 0 ∷ 0x5a ∷ [])) (cell 0 0x5a ∷ [])
     -- the status is repeated
@@ -77,6 +87,11 @@ statusCases =
     ∷ atWel (sample 10 2 ++ sample 26 1)
     -- the bit is SI in the sample in which SCK rises
     ∷ onPart0 (spiOn ++ selected 24 (spelled lateIn 0x06 0 8) ++ rdsr 0x02) []
+    -- SCK rises in the sample in which CS# rises, or falls: that is no clock, and WREN lacks a bit
+    ∷ onPart0 (spiOn ++ selected 24 (spelled (entered 24) 0x06 0 7 ++ sample 24 2) ++ rdsr 0x00) []
+    ∷ onPart0 (spiOn ++ sample 26 2 ++ spelled (entered 24) 0x06 1 7 ++ sample 27 2 ++ sample 25 2 ++ rdsr 0x00) []
+    -- CS# rises while HOLD# is 0: the selection has ended, and WREN is whole
+    ∷ onPart0 (spiOn ++ sample 24 2 ++ sent 24 (0x06 ∷ []) ++ sample 10 2 ++ sample 11 2 ++ sample 25 2 ++ rdsr 0x02) []
     -- CS# is low at power on: the part ignores the bus until it has been high
     ∷ onPart0 (step (1 ∷ 24 ∷ []) 2 ++ sent 24 (0x05 ∷ 0 ∷ []) ++ sample 27 2 ++ sample 25 2 ++ rdsr 0x00) []
     -- the bits over a power cut: lost on part 0, saved on parts 1 and 2
@@ -120,6 +135,8 @@ protectedCases =
     ∷ made 2 0 1 [] (spiOn ++ acrossThree 0x2ffff) (cell 0x2ffff 0xaa ∷ [])
     ∷ made 2 0 2 [] (spiOn ++ acrossThree 0x1ffff) (cell 0x1ffff 0xaa ∷ [])
     ∷ made 2 0 3 [] (spiOn ++ acrossThree 0x3ffff) []
+    -- BP 01, from the top address on, which is protected: the address goes up all the same, and the byte for 0 is written
+    ∷ onPart0 (spiOn ++ wrsr 0x04 ++ acrossTwo 0xfff) (cell 0 0xbb ∷ [])
     ∷ []
 
 -- a write word, and two bytes from an address on, written and read again
@@ -128,7 +145,7 @@ storedAndRead w a =
     i2cOn 0 ++ put w (two a) (0xaa ∷ 0xbb ∷ []) ++ stop ++ put w (two a) [] ++ got (w + 1) (0xaa ∷ []) 0xbb
 
 -- two bytes written from the top address of each part with nothing protected, and read again: the second goes to 0; and from an
--- address past the top, which counts modulo the size
+-- address past the top, which counts modulo the size; at the end FSTRD from the top address on
 unfoldable pub topCases : List Case
 topCases =
     onPart0 (spiOn ++ acrossTwo 0xfff ++ read (two 0xfff) (0xaa ∷ 0xbb ∷ [])) (cell 0xfff 0xaa ∷ cell 0 0xbb ∷ [])
@@ -140,6 +157,7 @@ topCases =
     ∷ made 1 0 0 [] (spiOn ++ acrossThree 0xfe1234) (cell 0x1234 0xaa ∷ cell 0x1235 0xbb ∷ [])
     ∷ made 2 0 0 [] (spiOn ++ acrossThree 0xfc1234) (cell 0x1234 0xaa ∷ cell 0x1235 0xbb ∷ [])
     ∷ made 3 0 0 [] (storedAndRead 0xa0 0xf123) (cell 0x1123 0xaa ∷ cell 0x1124 0xbb ∷ [])
+    ∷ made 1 0 0 (cell 0x1ffff 0xaa ∷ cell 0 0xbb ∷ []) (spiOn ++ asked (0x0b ∷ (three 0x1ffff ++ (0 ∷ []))) (0xaa ∷ 0xbb ∷ [])) []
     ∷ []
 
 -- ---- I2C
@@ -174,6 +192,15 @@ wordCases =
 abbrev pub onPart3 : List Step → List Cell → Case
 onPart3 steps cells = made 3 0 0 (cell 0x10 0x77 ∷ []) (i2cOn 0 ++ steps) cells
 
+-- an event's bytes with WP 1 in its sample, and the same of each step
+abbrev pub wpHigh : List ℕ → List ℕ
+wpHigh [] = []
+wpHigh (k ∷ []) = k ∷ []
+wpHigh (k ∷ x ∷ rest) = k ∷ (x + 4) ∷ rest
+
+abbrev pub underWp : List Step → List Step
+underWp steps = map (λ x. record { event = wpHigh (x .event); answer = x .answer }) steps
+
 -- a bit that SDA has only in the sample in which SCL rises: before, with SCL low, it changes to the other level
 abbrev pub late : Bool → List Step
 late b = sample (2 * bit b) 2 ++ sample (2 * bit (not b)) 2 ++ sample (2 * bit b + 1) 2
@@ -203,6 +230,17 @@ transferCases =
     ∷ onPart3 (put 0xa0 (two 0x0f) (0x5a ∷ []) ++ stop ++ got 0xa1 [] 0x77) (cell 0x0f 0x5a ∷ [])
     -- WP 1 at the ninth rise: acknowledged and dropped
     ∷ onPart3 (put 0xa0 (two 0x10) [] ++ spelled taken 0x5a 0 8 ++ sample 6 0 ++ sample 7 0 ++ stop) []
+    -- WP 1 throughout, on each part: the address is taken and the byte is read as with WP 0
+    ∷ made 3 0 0 (cell 0x10 0x77 ∷ []) (underWp (i2cOn 0 ++ put 0xa0 (two 0x10) [] ++ got 0xa1 [] 0x77)) []
+    ∷ made 4 0 0 (cell 0x11234 0x5a ∷ []) (underWp (i2cOn 0 ++ put 0xa2 (two 0x1234) [] ++ got 0xa3 [] 0x5a)) []
+    -- a data byte is stored at its ninth rise, with no STOP: power off comes next, and the byte is there
+    ∷ onPart3 (put 0xa0 (two 0x10) (0x5a ∷ []) ++ powerOff ++ i2cOn 0x10 ++ got 0xa1 [] 0x5a) (cell 0x10 0x5a ∷ [])
+    -- the part pulls, at an acknowledge and at a 0 that it sends: others move SDA while SCL is high, and that is no START and no STOP
+    ∷ onPart3 (word 0xa0 0 ++ sample 1 0 ++ sample 3 0 ++ each (λ v. byte v 0) (0 ∷ 0x10 ∷ 0x5a ∷ []) ++ stop) (cell 0x10 0x5a ∷ [])
+    ∷ onPart3 (put 0xa0 (two 0x10) [] ++ word 0xa1 0 ++ pulled false ++ sample 1 0 ++ sample 3 0 ++ spelled pulled 0x77 1 7 ++ clock true 2 ++ stop) []
+    -- the levels of power on's sample count: SDA falls after it and that is a START; if it is low from then on there is none
+    ∷ onPart3 (sample 1 2 ++ byte 0xa0 0) []
+    ∷ made 3 0 0 [] (step (2 ∷ 1 ∷ three 0) 2 ++ sample 1 2 ++ byte 0xa0 2) []
     -- the master leaves the line high at the ninth clock: the part sends no more
     ∷ onPart3 (put 0xa0 (two 0x10) [] ++ word 0xa1 0 ++ given true 0x77 ++ byte 0xff 2) []
     ∷ []
