@@ -1,2 +1,3 @@
 pub mod TextLaws
 pub mod ShowLaws
+pub mod TextExamples
