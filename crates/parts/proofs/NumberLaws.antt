@@ -4,7 +4,7 @@ use mathlib.Core.Bool.{false}
 use lib.Dec.{eqb}
 use borrow.Author.Tests.{eqb-false}
 use Rattle.parts.specs.declared.refusal.Refusal.{Refusal}
-use Rattle.parts.specs.declared.refusal.Refusal.the-variants.{ModelRange, StateRange, MemoryLength, UnknownKind, Truncated, FieldRange, Unpowered, Powered, Unexpected}
+use Rattle.parts.specs.declared.refusal.Refusal.the-variants.{ModelRange, StateRange, MemoryLength, UnknownKind, Truncated, FieldRange, Unpowered, Powered, Unexpected, NotDeselected, BufferLength}
 use Rattle.parts.specs.Numbers.{refusalNumber}
 
 pub refusal-counts : (r : Refusal) → eqb (refusalNumber r) 0 ≡ false
@@ -17,6 +17,8 @@ refusal-counts FieldRange = refl
 refusal-counts Unpowered = refl
 refusal-counts Powered = refl
 refusal-counts Unexpected = refl
+refusal-counts NotDeselected = refl
+refusal-counts BufferLength = refl
 
 pub number-positive : (r : Refusal) → refusalNumber r ≡ 0 → ⊥
 number-positive r = eqb-false (refusalNumber r) 0 (refusal-counts r)

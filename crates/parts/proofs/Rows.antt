@@ -10,7 +10,7 @@ use lib.Dec.{ltb, leb, eqb}
 use lib.ListN.{length, getD}
 use borrow.Author.Tests.{ltb-true, leb-true, eqb-true}
 use Rattle.parts.specs.declared.part.Part.{Part}
-use Rattle.parts.specs.Table.{parts, noPart, partOf, Fit, fits}
+use Rattle.parts.specs.Table.{isSpi, parts, noPart, partOf, Fit, fits}
 
 -- both of two tests that pass together pass
 pub and-both : (a b : Bool) → (a && b) ≡ true → (a ≡ true) × (b ≡ true)
@@ -60,3 +60,19 @@ part-fits n h = fit-of (partOf n) (at fits noPart parts refl n h)
 -- as many settings of the address pins as the device address word has room for: two pins beside A16, else three
 pub pins-fit : (n : ℕ) → n < 5 → partOf n .pins ≤ cond (partOf n .a16) 4 8
 pins-fit n h = leb-true _ _ (at (λ p. leb (p .pins) (cond (p .a16) 4 8)) noPart parts refl n h)
+
+-- the address of an SPI part has whole bytes
+pub bytewise : (n : ℕ) → n < 5 → isSpi (partOf n .bus) ≡ true → partOf n .width % 8 ≡ 0
+bytewise n h spi =
+    eqb-true (partOf n .width % 8) 0
+    (if-set (isSpi (partOf n .bus)) (eqb (partOf n .width % 8) 0)
+    (at (λ p. cond (isSpi (p .bus)) (eqb (p .width % 8) 0) true) noPart parts refl n h) spi)
+
+-- an identity is three bytes
+pub identity-bytes : (n : ℕ) → n < 5 → (i : ℕ) → getD (partOf n .identity) i 0 < 256
+identity-bytes n h i = getD-below (partOf n .identity) (at (λ p. every (λ v. ltb v 256) (p .identity)) noPart parts refl n h) i
+  where
+    getD-below : (vs : List ℕ) → every (λ v. ltb v 256) vs ≡ true → (i : ℕ) → getD vs i 0 < 256
+    getD-below [] t i = omega arith
+    getD-below (v ∷ vs) t zero = ltb-true v 256 (and-both (ltb v 256) _ t .0)
+    getD-below (v ∷ vs) t (suc i) = getD-below vs (and-both (ltb v 256) _ t .1) i

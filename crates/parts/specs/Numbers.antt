@@ -4,7 +4,7 @@ use mathlib.Core.Bool.{Bool, true, false}
 use Rattle.parts.specs.declared.answer.Answer.{Answer}
 use Rattle.parts.specs.declared.answer.Answer.the-variants.{Low, High, HighZ}
 use Rattle.parts.specs.declared.refusal.Refusal.{Refusal}
-use Rattle.parts.specs.declared.refusal.Refusal.the-variants.{ModelRange, StateRange, MemoryLength, UnknownKind, Truncated, FieldRange, Unpowered, Powered, Unexpected}
+use Rattle.parts.specs.declared.refusal.Refusal.the-variants.{ModelRange, StateRange, MemoryLength, UnknownKind, Truncated, FieldRange, Unpowered, Powered, Unexpected, NotDeselected, BufferLength}
 
 -- 'Numbers given back', in the order in which they are tested
 abbrev pub refusalNumber : Refusal → ℕ
@@ -17,6 +17,8 @@ refusalNumber FieldRange = 6
 refusalNumber Unpowered = 7
 refusalNumber Powered = 8
 refusalNumber Unexpected = 9
+refusalNumber NotDeselected = 12
+refusalNumber BufferLength = 13
 
 -- what the part drives, as a number; 2 is for nothing (document 01, Models and events)
 abbrev pub answerNumber : Answer → ℕ

@@ -21,6 +21,10 @@ pub enum Refusal {
     Powered,
     // 9: the part answers something else than expected
     Unexpected,
+    // of a selection as bytes: no power, or CS# was not 1 in the last sample (12)
+    NotDeselected,
+    // the buffer for what comes back is not as long as the bytes that go in (13)
+    BufferLength,
 }
 
 impl Refusal {
@@ -37,6 +41,8 @@ impl Refusal {
             Refusal::Unpowered => 7,
             Refusal::Powered => 8,
             Refusal::Unexpected => 9,
+            Refusal::NotDeselected => 12,
+            Refusal::BufferLength => 13,
         }
     }
 }

@@ -54,7 +54,7 @@ fn phase_after_opcode(command: Command) -> Phase
 }
 
 // The phase after the last bit of a field.
-fn phase_after_field(part: Part, field: Field, value: u32) -> Phase
+pub fn phase_after_field(part: Part, field: Field, value: u32) -> Phase
     requires { ⌜ Fit part × FieldIn part field × (value < 2 ^ width part field) ⌝ }
     ensures { λ r. ⌜ r ≡ phaseAfterField part field value ⌝ }
 {

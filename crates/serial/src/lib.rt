@@ -1,4 +1,4 @@
-// What both serial buses share: bits into numbers, addresses that go up, and the one place that stores to a memory.
+// What both serial buses share: bits into numbers, addresses that go up, and the store of one byte.
 pub mod address;
 pub mod bits;
 pub mod write;

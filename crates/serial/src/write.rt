@@ -1,4 +1,4 @@
-// What a sample writes, and the only function that stores to a lent memory.
+// What a sample writes, and the function that stores one byte to a lent memory; `rolled_write` stores many.
 ghost use mathlib.Core.Path.{_≡_};
 ghost use lib.ListN.{length};
 ghost use Rattle.serial.specs.Write.{applied, Within};

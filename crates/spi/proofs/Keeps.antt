@@ -69,7 +69,7 @@ module _ (p : Part) (fit : Fit p) where
   after-opcode-in SLEEP = tt
   after-opcode-in Unknown = tt
 
-  after-field-in : (f : Field) (v : ℕ) → FieldIn p f → PhaseIn p (phaseAfterField p f v)
+  pub after-field-in : (f : Field) (v : ℕ) → FieldIn p f → PhaseIn p (phaseAfterField p f v)
   after-field-in Opcode v h = after-opcode-in (commandOf p v)
   after-field-in ReadAddress v h = showing-in (Memory _) (mod-lt v (fit .positive))
   after-field-in FastAddress v h = taking-in (Dummy _) (mod-lt v (fit .positive))
@@ -85,7 +85,7 @@ module _ (p : Part) (fit : Fit p) where
       by true e = record { field = h .field; short = ltb-true (n + 1) (width p f) e; bits = shifted-within n v b (h .bits) }
       by false e = after-field-in f (shifted v b) (h .field)
 
-  next-source-in : (s : Source) → SourceIn p s → SourceIn p (nextSource p s)
+  pub next-source-in : (s : Source) → SourceIn p s → SourceIn p (nextSource p s)
   next-source-in (Memory a) h = next-within (p .size) a (fit .positive)
   next-source-in Register h = tt
   next-source-in (Identity i) h = by (ltb i 3) refl
@@ -108,7 +108,7 @@ module _ (p : Part) (fit : Fit p) where
   rise-in (Showing s k) b h = shown-in s k h
   rise-in (Waiting a) b h = tt
 
-  selected-in : (z : Bool) → PhaseIn p (selected z)
+  pub selected-in : (z : Bool) → PhaseIn p (selected z)
   selected-in true = tt
   selected-in false = taking-in Opcode tt
 

@@ -1,0 +1,5 @@
+pub mod PinPath
+pub mod ByBytes
+pub mod Head
+pub mod Rest
+pub mod Select

@@ -1,0 +1,97 @@
+// The bytes of a selection before its data: opcode, address, the dummy byte of FSTRD, the data byte of WRSR.
+ghost use mathlib.Core.Path.{_≡_};
+ghost use mathlib.Core.Bool.{true};
+ghost use Rattle.selection.specs.declared.phase.Phase.the-variants as Phase;
+ghost use Rattle.byte_path.specs.ByBytes.{phaseAfterByte};
+ghost use Rattle.byte_path.specs.Head.{headField, isHead, headFrom, Bordered};
+use parts::part::Part;
+use selection::phase::Field;
+use selection::phase::Phase;
+
+// The phase in which the head has been taken, and how many bytes it had.
+pub struct Head {
+    pub phase: Phase,
+    pub at: usize,
+}
+
+fn head_field(field: Field) -> bool
+    ensures { λ r. ⌜ r ≡ headField field ⌝ }
+{
+    match field {
+        Field::Opcode => true,
+        Field::ReadAddress => true,
+        Field::FastAddress => true,
+        Field::WriteAddress => true,
+        Field::Dummy { address: _ } => true,
+        Field::Data {
+            address: _,
+            whole: _,
+        } => false,
+        Field::StatusByte => true,
+    }
+}
+
+fn is_head(phase: Phase) -> bool
+    ensures { λ r. ⌜ r ≡ isHead phase ⌝ }
+{
+    match phase {
+        Phase::Rest => false,
+        Phase::Ignoring => false,
+        Phase::Taking {
+            field,
+            count: _,
+            value: _,
+        } => head_field(field),
+        Phase::Showing { source: _, bit: _ } => false,
+        Phase::Waiting { action: _ } => false,
+    }
+}
+
+// Eight bits more of a field.
+fn field_after(part: Part, field: Field, count: u8, value: u32, byte: u8) -> Phase
+    requires { ⌜ Bordered part (Phase.Taking field count value) ⌝ }
+    ensures { λ r. ⌜ r ≡ phaseAfterByte part (Phase.Taking field count value) byte ⌝ }
+{
+    let more = 256 * value + byte as u32;
+    let taken = count + 8;
+    if taken < selection::phase::width(part, field) {
+        Phase::Taking {
+            field,
+            count: taken,
+            value: more,
+        }
+    } else {
+        selection::rise::phase_after_field(part, field, more)
+    }
+}
+
+fn after_byte(part: Part, phase: Phase, byte: u8) -> Phase
+    requires { ⌜ Bordered part phase × (isHead phase ≡ true) ⌝ }
+    ensures { λ r. ⌜ r ≡ phaseAfterByte part phase byte ⌝ }
+{
+    match phase {
+        Phase::Rest => phase,
+        Phase::Ignoring => phase,
+        Phase::Taking {
+            field,
+            count,
+            value,
+        } => field_after(part, field, count, value, byte),
+        // impossible: what is shown takes no byte of a head
+        Phase::Showing { source: _, bit: _ } => phase,
+        Phase::Waiting { action: _ } => phase,
+    }
+}
+
+pub fn head_of(part: Part, first: Phase, input: &[u8]) -> Head
+    requires { ⌜ Bordered part first ⌝ }
+    ensures { λ r. ⌜ r ≡ headFrom part first (now (input .entry)) ⌝ }
+{
+    let mut phase = first;
+    let mut at: usize = 0;
+    while at < input.len() && is_head(phase) {
+        phase = after_byte(part, phase, input[at]);
+        at += 1;
+    }
+    Head { phase, at }
+}

@@ -1,0 +1,3 @@
+pub mod RolledLaws
+pub mod ReadLaws
+pub mod FillLaws
