@@ -1,2 +1,3 @@
 pub mod Make
 pub mod MadeRun
+pub mod Selected
