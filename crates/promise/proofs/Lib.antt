@@ -20,3 +20,8 @@ pub mod SpiAnswersBytes
 pub mod SpiAnswersExample
 pub mod Answers
 pub mod RunEvents
+pub mod PinSamples
+pub mod Selects
+pub mod SelectSteps
+pub mod SelectAnswers
+pub mod SelectsExample

@@ -1,5 +1,5 @@
--- For every reached state no event and no run gives number 1 or 2, and with a memory of the wrong length every event gives 3 and
--- changes nothing. From the ranges of such states and the order of the tests. Assumes nothing.
+-- For every reached state no event, no run and no selection as bytes gives number 1 or 2, and with a memory of the wrong length every
+-- event gives 3 and changes nothing. From the ranges of such states and the order of the tests. Assumes nothing.
 use Prim.Native.Nat.{ℕ}
 use mathlib.Core.Path.{_≡_, refl}
 use mathlib.Core.Bool.{Bool, true, false, cond}
@@ -9,18 +9,23 @@ use lib.Dec.{eqb, ltb}
 use lib.ListN.{length, getD}
 use borrow.Author.Tests.{eqb-false, ne-eqb}
 use Rattle.parts.specs.declared.part.Part.{Part}
+use Rattle.parts.specs.declared.refusal.Refusal.{Refusal}
 use Rattle.parts.specs.declared.refusal.Refusal.the-variants as R
 use Rattle.parts.specs.Numbers.{refusalNumber}
-use Rattle.parts.specs.Table.{partOf}
+use Rattle.parts.specs.Table.{isSpi, partOf}
 use Rattle.trace.specs.declared.event.Event.{Event}
 use Rattle.trace.specs.declared.read.Read.{Read}
 use Rattle.trace.specs.declared.read.Read.the-variants.{Whole, Refused}
 use Rattle.trace.specs.Event.{fieldsIn}
 use Rattle.trace.specs.Read as Trace
 use Rattle.chip.specs.declared.check.Verdict.the-variants.{Passed, Failed}
+use Rattle.chip.specs.declared.model.BusState.{BusState}
+use Rattle.chip.specs.declared.model.BusState.the-variants.{Unpowered, SpiOn, I2cOn}
 use Rattle.chip.specs.declared.model.Model.{Model}
 use Rattle.events.specs.Event.{Outcome, keeping}
 use Rattle.events.proofs.Done.{Done, refused-with, accepted-as, done}
+use Rattle.byte_path.specs.PinPath.{selectionOf}
+use Rattle.byte_path.specs.Select.{Select, refusedSelect, takenSelect, sizedSelect, busSelect, verdictSelect, selectOf}
 use Rattle.runs.specs.Event as One
 use Rattle.runs.specs.Event.{onRead, eventOf}
 use Rattle.runs.specs.Run as Many
@@ -90,6 +95,30 @@ run-late {s} r quota t m = rw (reached-check r (length m)) (by (eqb (length m) (
     by true = loop-late quota t s m r
     by false = (refl, refl)
 
+-- ---- a selection as bytes on a reached state
+
+module _ (wp : Bool) (s : Model) (input output m : List ℕ) where
+  late-test : (t : Bool) (x : Select) (r : Refusal) → Late (refusalNumber r) → Late (x .number) → Late (cond t x (refusedSelect wp s input output m r) .number)
+  late-test true x r h k = k
+  late-test false x r h k = h
+
+  sized-late : Late (sizedSelect wp s input output m .number)
+  sized-late =
+      late-test (eqb (length output) (length input)) (takenSelect wp s input output m (selectionOf wp s m input)) R.BufferLength (refl, refl) (refl, refl)
+
+  bus-late : (b : BusState) → Late (busSelect wp s input output m b .number)
+  bus-late Unpowered = (refl, refl)
+  bus-late (SpiOn x) = late-test (x .last .cs) (sizedSelect wp s input output m) R.NotDeselected (refl, refl) sized-late
+  bus-late (I2cOn x) = (refl, refl)
+
+  select-late : Reached s → Late (selectOf wp s input output m .number)
+  unfolding selectOf
+  select-late r = rw (reached-check r (length m)) (by (eqb (length m) (partOf (s .part) .size)))
+    where
+      by : (y : Bool) → Late (verdictSelect wp s input output m (cond y Passed (Failed R.MemoryLength)) .number)
+      by true = late-test (isSpi (partOf (s .part) .bus)) (busSelect wp s input output m (s .bus)) R.UnknownKind (refl, refl) (bus-late (s .bus))
+      by false = (refl, refl)
+
 -- ---- in plain words
 
 pub event-never-one-or-two : {s : Model} → Reached s → (m t : List ℕ)
@@ -99,6 +128,11 @@ event-never-one-or-two r m t = let h = event-late r m t in (eqb-false _ 1 (h .0)
 pub run-never-one-or-two : {s : Model} → Reached s → (quota : ℕ) (t m : List ℕ)
     → (runOf quota t s m .number ≡ 1 → ⊥) × (runOf quota t s m .number ≡ 2 → ⊥)
 run-never-one-or-two r quota t m = let h = run-late r quota t m in (eqb-false _ 1 (h .0), eqb-false _ 2 (h .1))
+
+pub select-never-one-or-two : {s : Model} → Reached s → (wp : Bool) (input output m : List ℕ)
+    → (selectOf wp s input output m .number ≡ 1 → ⊥) × (selectOf wp s input output m .number ≡ 2 → ⊥)
+select-never-one-or-two {s} r wp input output m =
+    let h = select-late wp s input output m r in (eqb-false _ 1 (h .0), eqb-false _ 2 (h .1))
 
 -- number 3, answer 2, the given state and memory
 pub wrong-length : {s : Model} → Reached s → (m t : List ℕ) → (length m ≡ partOf (s .part) .size → ⊥)

@@ -1,8 +1,8 @@
 -- Reached states are in range, whatever numbers, bytes, quotas and memories the calls were given, so that numbers 1 and 2 are not
--- given for them. From the same fact for one event. Assumes nothing.
+-- given for them. From the same fact for one event, since runs and selections are events. Assumes nothing.
 use Prim.Native.Nat.{ℕ}
-use mathlib.Core.Path.{_≡_}
-use mathlib.Core.Bool.{true, cond}
+use mathlib.Core.Path.{_≡_, subst}
+use mathlib.Core.Bool.{Bool, true, cond}
 use mathlib.Core.List.{List}
 use lib.Dec.{eqb}
 use lib.ListN.{length}
@@ -12,10 +12,13 @@ use Rattle.chip.specs.declared.check.Verdict.{Verdict}
 use Rattle.chip.specs.declared.check.Verdict.the-variants.{Passed, Failed}
 use Rattle.chip.specs.declared.model.Model.{Model}
 use Rattle.chip.specs.Check.{modelIn, busIn, checkOf}
+use Rattle.byte_path.specs.Select.{selectOf}
 use Rattle.runs.specs.Run.{loopOf, runOnVerdict, runOf}
 use Rattle.runs.proofs.RunLaws.{loop-induction}
-use Rattle.promise.specs.Reached.{Reached, by-making, by-event, by-run}
-use Rattle.promise.proofs.Ranges.{InRange, made-in, event-in}
+use Rattle.promise.specs.Reached.{Reached, by-making, by-event, by-run, by-select}
+use Rattle.promise.specs.SelectSteps.{select, stepEvents}
+use Rattle.promise.proofs.Ranges.{InRange, made-in, event-in, list-in}
+use Rattle.promise.proofs.SelectSteps.{step-leaves}
 
 loop-in : (quota : ℕ) (t : List ℕ) (s : Model) (m : List ℕ) → InRange s → InRange (loopOf quota t s m .model)
 loop-in =
@@ -31,10 +34,15 @@ run-in quota t s m h = by (checkOf s (length m))
     by Passed = loop-in quota t s m h
     by (Failed r) = h
 
+select-in : (wp : Bool) (s : Model) (input output m : List ℕ) → InRange s → InRange (selectOf wp s input output m .model)
+select-in wp s input output m h =
+    subst InRange (step-leaves (select wp input output) s m .0) (list-in (stepEvents s m (select wp input output)) s m h)
+
 pub reached-in-range : {s : Model} → Reached s → (modelIn s ≡ true) × (busIn (partOf (s .part)) (s .status) (s .bus) ≡ true)
 reached-in-range (by-making part pins bits) = made-in part pins bits
 reached-in-range (by-event {s} m t r) = event-in s m t (reached-in-range r)
 reached-in-range (by-run {s} quota t m r) = run-in quota t s m (reached-in-range r)
+reached-in-range (by-select {s} wp input output m r) = select-in wp s input output m (reached-in-range r)
 
 -- so a reached state fails the tests 1 to 3 only by a memory of the wrong length
 pub reached-check : {s : Model} → Reached s → (length : ℕ)

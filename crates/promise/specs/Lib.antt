@@ -10,3 +10,6 @@ pub mod Reached
 pub mod Corollaries
 pub mod BitSteps
 pub mod SpiBytes
+pub mod Selects
+pub mod SelectSteps
+pub mod SelectAnswers
