@@ -1,7 +1,10 @@
-// The exported calls: a making and a run. Numbers have 32 bits, so that a host's 256 is refused and not cut to 0.
+// The exported calls: a making and a run, and both with a selection as bytes. Numbers have 32 bits, so that a host's 256 is refused and not cut to 0.
 ghost use mathlib.Core.Path.{_≡_};
+ghost use mathlib.Core.Bool.{not};
+ghost use lib.Dec.{eqb};
 ghost use lib.Seq.{sets};
 ghost use Rattle.model.specs.MadeRun.{madeRun};
+ghost use Rattle.model.specs.Selected.{madeSelect};
 ghost use Rattle.harness.specs.Result.{resultIn};
 
 // Makes a model, runs the trace on the lent memory, and returns the number or 0. A result of exactly 16 bytes gets count and
@@ -45,4 +48,37 @@ pub extern "C" fn sildrokk_run(
 {
     let mut answers = [0u8; 1];
     sildrokk_replay(part, pins, bits, quota, trace, memory, &mut answers, result)
+}
+
+// Makes a model, runs the whole trace, and if all of it was accepted takes one selection of an SPI part as bytes; WP# is low if wp is 0 and
+// high if not. A result of exactly 16 bytes gets the index of the first driven byte and how many are driven.
+#[no_mangle]
+pub extern "C" fn sildrokk_select(
+    part: u32,
+    pins: u32,
+    bits: u32,
+    trace: &[u8],
+    wp: u32,
+    input: &[u8],
+    output: &mut [u8],
+    memory: &mut [u8],
+    result: &mut [u8],
+) -> u8
+    ensures number { λ r. ⌜ r ≡ madeSelect part pins bits (now (trace .entry)) (not (eqb wp 0)) (now (input .entry)) (now (output .entry)) (now (memory .entry)) .number ⌝ }
+    ensures memory { λ r. ⌜ now (memory .exit) ≡ madeSelect part pins bits (now (trace .entry)) (not (eqb wp 0)) (now (input .entry)) (now (output .entry)) (now (memory .entry)) .memory ⌝ }
+    ensures output { λ r. ⌜ now (output .exit) ≡ madeSelect part pins bits (now (trace .entry)) (not (eqb wp 0)) (now (input .entry)) (now (output .entry)) (now (memory .entry)) .output ⌝ }
+    ensures result { λ r. ⌜ now (result .exit) ≡ resultIn (madeSelect part pins bits (now (trace .entry)) (not (eqb wp 0)) (now (input .entry)) (now (output .entry)) (now (memory .entry)) .first) (madeSelect part pins bits (now (trace .entry)) (not (eqb wp 0)) (now (input .entry)) (now (output .entry)) (now (memory .entry)) .count) (now (result .entry)) ⌝ }
+{
+    let selected = model::made::select_made(
+        part,
+        pins,
+        bits,
+        trace,
+        wp != 0,
+        input,
+        output,
+        memory,
+    );
+    crate::result::write_result(result, selected.first as u64, selected.count as u64);
+    selected.number
 }
