@@ -1,12 +1,17 @@
 // The bytes of a selection before its data: opcode, address, the dummy byte of FSTRD, the data byte of WRSR.
 ghost use mathlib.Core.Path.{_≡_};
 ghost use mathlib.Core.Bool.{true};
+ghost use Prim.Native.Nat.{_<_, _^_};
+ghost use Rattle.parts.specs.Table.{Fit};
 ghost use Rattle.selection.specs.declared.phase.Phase.the-variants as Phase;
+ghost use Rattle.selection.specs.Phase.{width, phaseAfterField};
 ghost use Rattle.byte_path.specs.ByBytes.{phaseAfterByte};
 ghost use Rattle.byte_path.specs.Head.{headField, isHead, headFrom, Bordered};
 use parts::part::Part;
+use selection::phase::Action;
 use selection::phase::Field;
 use selection::phase::Phase;
+use selection::phase::Source;
 
 // The phase in which the head has been taken, and how many bytes it had.
 pub struct Head {
@@ -47,9 +52,40 @@ fn is_head(phase: Phase) -> bool
     }
 }
 
+// A whole field of a head. The loop over samples has the same for any field (selection::rise::phase_after_field): each loop has a function
+// of its own, since the compiler puts one that both call into neither.
+fn after_field(part: Part, field: Field, value: u32) -> Phase
+    requires { ⌜ Fit part × (value < 2 ^ width part field) × (headField field ≡ true) ⌝ }
+    ensures { λ r. ⌜ r ≡ phaseAfterField part field value ⌝ }
+{
+    match field {
+        Field::Opcode => {
+            let command = selection::opcode::command_of(part, value);
+            selection::rise::phase_after_opcode(command)
+        }
+        Field::ReadAddress => selection::rise::showing(Source::Memory {
+            address: value % part.size,
+        }),
+        Field::FastAddress => selection::rise::taking(Field::Dummy {
+            address: value % part.size,
+        }),
+        Field::WriteAddress => selection::rise::taking(Field::Data {
+            address: value % part.size,
+            whole: false,
+        }),
+        Field::Dummy { address } => selection::rise::showing(Source::Memory { address }),
+        // impossible: data is no head
+        Field::Data {
+            address: _,
+            whole: _,
+        } => selection::rise::taking(field),
+        Field::StatusByte => selection::rise::waiting(Action::WriteStatus { byte: value as u8 }),
+    }
+}
+
 // Eight bits more of a field.
 fn field_after(part: Part, field: Field, count: u8, value: u32, byte: u8) -> Phase
-    requires { ⌜ Bordered part (Phase.Taking field count value) ⌝ }
+    requires { ⌜ Bordered part (Phase.Taking field count value) × (headField field ≡ true) ⌝ }
     ensures { λ r. ⌜ r ≡ phaseAfterByte part (Phase.Taking field count value) byte ⌝ }
 {
     let more = 256 * value + byte as u32;
@@ -61,7 +97,7 @@ fn field_after(part: Part, field: Field, count: u8, value: u32, byte: u8) -> Pha
             value: more,
         }
     } else {
-        selection::rise::phase_after_field(part, field, more)
+        after_field(part, field, more)
     }
 }
 

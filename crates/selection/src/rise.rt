@@ -23,20 +23,20 @@ pub fn taking(field: Field) -> Phase
 }
 
 // The first bit of what is shown.
-fn showing(source: Source) -> Phase
+pub fn showing(source: Source) -> Phase
     ensures { λ r. ⌜ r ≡ Phase.Showing source 0 ⌝ }
 {
     Phase::Showing { source, bit: 0 }
 }
 
-fn waiting(action: Action) -> Phase
+pub fn waiting(action: Action) -> Phase
     ensures { λ r. ⌜ r ≡ Phase.Waiting action ⌝ }
 {
     Phase::Waiting { action }
 }
 
 // The phase after a whole opcode.
-fn phase_after_opcode(command: Command) -> Phase
+pub fn phase_after_opcode(command: Command) -> Phase
     ensures { λ r. ⌜ r ≡ phaseAfterOpcode command ⌝ }
 {
     match command {
@@ -54,7 +54,7 @@ fn phase_after_opcode(command: Command) -> Phase
 }
 
 // The phase after the last bit of a field.
-pub fn phase_after_field(part: Part, field: Field, value: u32) -> Phase
+fn phase_after_field(part: Part, field: Field, value: u32) -> Phase
     requires { ⌜ Fit part × FieldIn part field × (value < 2 ^ width part field) ⌝ }
     ensures { λ r. ⌜ r ≡ phaseAfterField part field value ⌝ }
 {

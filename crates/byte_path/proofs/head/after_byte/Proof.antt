@@ -6,7 +6,7 @@ use Rattle.byte_path.proofs.head.after_byte.Statement.{statement}
 use Rattle.byte_path.proofs.head.after_byte.Tie as tie
 
 field-after-requires : tie.Need-field-after-requires
-field-after-requires c κs = rw (c .before .phase .given .1) at (c .before .before .before .pre .0)
+field-after-requires c κs = rw (c .before .phase .given .1) at (c .before .before .before .pre)
 
 returns-3 : tie.Need-returns-3
 returns-3 c = simp (c .field-after .ensures, c .before .before .phase .given .1)
