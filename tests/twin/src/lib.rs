@@ -3,6 +3,7 @@
 
 #![forbid(unsafe_code)]
 
+pub mod bytes;
 pub mod gen;
 pub mod i2c;
 pub mod ledger;
@@ -11,6 +12,7 @@ pub mod part;
 pub mod spi;
 pub mod text;
 
+pub use bytes::Selected;
 pub use ledger::Ledger;
 pub use model::{Model, Ran};
 pub use part::{Part, PARTS};

@@ -1,5 +1,7 @@
-//! "Models and events" and "Numbers given back": making, one event, and trace runs.
+//! "Models and events" and "Numbers given back": making, one event, a selection as bytes, and
+//! trace runs.
 
+use crate::bytes::Selected;
 use crate::i2c::I2c;
 use crate::part::{Part, Wires, PARTS};
 use crate::spi::Spi;
@@ -101,6 +103,31 @@ impl Model {
         match self.step(bytes, memory) {
             Ok((answer, _)) => (0, answer),
             Err(number) => (number, NOTHING),
+        }
+    }
+
+    /// A selection as bytes: 3, then 4 on I2C even without power, 12 unless a powered part has CS#
+    /// 1, and 13 for an output of another length. A refusal leaves all that was lent as it was.
+    pub fn select(
+        &mut self,
+        wp: bool,
+        input: &[u8],
+        output: &mut [u8],
+        memory: &mut [u8],
+    ) -> Selected {
+        if memory.len() != self.part.size {
+            return Selected::refused(3);
+        }
+        match (&mut self.power, self.part.wires) {
+            (_, Wires::I2c) => Selected::refused(4),
+            (Power::Spi(spi), _) if !spi.selected() => {
+                if output.len() == input.len() {
+                    spi.select(wp, input, output, memory)
+                } else {
+                    Selected::refused(13)
+                }
+            }
+            _ => Selected::refused(12),
         }
     }
 

@@ -43,12 +43,13 @@ impl Selection {
 /// A SPI part from power on to power off.
 #[derive(Clone, Debug, PartialEq, Eq)]
 pub struct Spi {
-    part: &'static Part,
+    pub(crate) part: &'static Part,
     /// SRWD BP1 BP0.
-    bits: u8,
-    wel: bool,
-    asleep: bool,
+    pub(crate) bits: u8,
+    pub(crate) wel: bool,
+    pub(crate) asleep: bool,
     old: u8,
+    /// While CS# is 1, as at power on: one that ignores the bus.
     selection: Selection,
 }
 
@@ -69,6 +70,17 @@ impl Spi {
         self.bits
     }
 
+    /// CS# was 0 in the last sample.
+    pub(crate) fn selected(&self) -> bool {
+        self.old & CS == 0
+    }
+
+    /// A selection has ended with this sample, and no trace of it is kept.
+    pub(crate) fn rest(&mut self, sample: u8) {
+        self.old = sample;
+        self.selection = Selection::begin(true);
+    }
+
     /// Nothing is driven while the part is held or unselected; a hold leaves the bit shown.
     pub fn answer(&self) -> u8 {
         if self.old & (CS | HOLD) == HOLD {
@@ -87,6 +99,7 @@ impl Spi {
                 self.selection = Selection::begin(self.asleep);
             } else {
                 self.end_selection(new & WP != 0);
+                self.rest(new);
             }
         } else if changed & SCK != 0 && new & CS == 0 && old & new & HOLD != 0 {
             self.clock_edge(new, memory);
@@ -170,7 +183,7 @@ impl Spi {
     }
 
     /// The byte of the status register, with SRWD on top.
-    fn status(&self) -> u8 {
+    pub(crate) fn status(&self) -> u8 {
         (self.bits & 4) << 5 | (self.bits & 3) << 2 | u8::from(self.wel) << 1
     }
 

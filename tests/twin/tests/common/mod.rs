@@ -1,5 +1,8 @@
 //! Masters for the two buses, as plain as can be.
 
+#[allow(dead_code)]
+pub mod pins;
+
 use twin::text::first_memory;
 use twin::Model;
 
