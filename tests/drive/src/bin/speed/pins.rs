@@ -1,13 +1,10 @@
-//! How fast the proved build is beside the twin, in one process and on the same traces: medians of
-//! interleaved rounds, no answers collected on either side. `speed [ROUNDS [LIMIT]]`; it fails if a
-//! ratio is above the limit.
+//! Streams of pin events: one long trace on either side, no answers collected.
 
+use crate::{median, timed};
 use drive::script::{addressed, Script};
 use drive::tally::events;
 use drive::{Making, Ran};
 use std::hint::black_box;
-use std::process::ExitCode;
-use std::time::Instant;
 use twin::gen::Rng;
 use twin::part::Wires;
 use twin::{Model, PARTS};
@@ -21,11 +18,8 @@ struct Stream {
     trace: Vec<u8>,
 }
 
-fn main() -> ExitCode {
-    let word = |at| std::env::args().nth(at);
-    let rounds = word(1).and_then(|word| word.parse().ok()).unwrap_or(15);
-    let limit = word(2).and_then(|word| word.parse().ok());
-    let limit = limit.unwrap_or(f64::INFINITY);
+/// Prints the table; the ratio of each stream.
+pub fn table(rounds: usize) -> Vec<f64> {
     println!("                                       million events a second     ns an event");
     println!("stream         memory      events      proved        twin   ratio  proved    twin");
     let streams = [
@@ -44,12 +38,7 @@ fn main() -> ExitCode {
         ratios.push(measure(&spi_write(part), rounds));
         ratios.push(measure(&spi_read(part), rounds));
     }
-    if ratios.iter().all(|&ratio| ratio <= limit) {
-        ExitCode::SUCCESS
-    } else {
-        println!("a ratio is above {limit}");
-        ExitCode::FAILURE
-    }
+    ratios
 }
 
 /// One WRITE that goes round the memory.
@@ -179,13 +168,6 @@ fn measure(stream: &Stream, rounds: usize) -> f64 {
     ratio
 }
 
-/// A run and its seconds.
-fn timed(run: impl FnOnce() -> Ran) -> (Ran, f64) {
-    let begun = Instant::now();
-    let ran = black_box(run());
-    (ran, begun.elapsed().as_secs_f64())
-}
-
 fn proved(stream: &Stream, memory: &mut [u8]) -> Ran {
     let making = Making {
         part: stream.part,
@@ -198,10 +180,4 @@ fn proved(stream: &Stream, memory: &mut [u8]) -> Ran {
 fn twin(stream: &Stream, memory: &mut [u8]) -> Ran {
     let (_, mut model) = Model::make(stream.part, 0, 0);
     model.run_each(black_box(&stream.trace), u64::MAX, memory, |_| ())
-}
-
-fn median(times: &[(f64, f64)], figure: impl Fn(&(f64, f64)) -> f64) -> f64 {
-    let mut figures: Vec<f64> = times.iter().map(figure).collect();
-    figures.sort_by(f64::total_cmp);
-    figures[figures.len() / 2]
 }

@@ -1,0 +1,313 @@
+//! Selections as bytes: the proved build by bytes and by pins, the twin by bytes, and a copy of as
+//! many bytes. Each call makes a model and runs what comes before the selection, so the time of
+//! that alone, taken in the same round, is subtracted.
+
+use crate::{median, timed};
+use drive::script::{addressed, Script};
+use drive::Making;
+use std::hint::black_box;
+use twin::bytes::spelled;
+use twin::gen::Rng;
+use twin::text::first_memory;
+use twin::{Model, PARTS};
+
+/// Data bytes of a long selection: the smallest memory once.
+const BYTES: usize = 4_096;
+
+/// A selection and how often its time is taken in a round, so that the clock's grain is lost in it.
+struct Selection {
+    name: &'static str,
+    making: Making,
+    /// The trace before it.
+    before: Vec<u8>,
+    input: Vec<u8>,
+    /// The trace before it and its own pin events.
+    pins: Vec<u8>,
+    calls: usize,
+    calls_by_pins: usize,
+}
+
+/// What a selection may take.
+struct Limits {
+    of_pins: f64,
+    of_twin: f64,
+    of_copy: f64,
+}
+
+/// Prints the table; what is above its limit. To the twin's time that is the one given.
+pub fn table(rounds: usize, limit: f64) -> Vec<String> {
+    println!("                                 ns a byte                         by bytes over");
+    println!(
+        "selection    memory  bytes    by bytes  by pins     twin   copy    pins   twin   copy"
+    );
+    let long = Limits {
+        of_pins: 0.01,
+        of_twin: limit,
+        of_copy: 4.0,
+    };
+    let short = Limits {
+        of_pins: 0.5,
+        of_twin: limit,
+        of_copy: f64::INFINITY,
+    };
+    let mut high = Vec::new();
+    for selection in (0..3).flat_map(|part| [read(part), write(part)]) {
+        high.extend(long.passed(&selection, measure(&selection, rounds)));
+    }
+    for selection in (0..3).flat_map(|part| [enable(part), status(part)]) {
+        high.extend(short.passed(&selection, measure(&selection, rounds)));
+    }
+    high
+}
+
+impl Limits {
+    /// A line for each ratio, to pins, twin and copy, that is above its limit.
+    fn passed(&self, selection: &Selection, ratios: [f64; 3]) -> Vec<String> {
+        let limits = [self.of_pins, self.of_twin, self.of_copy];
+        let names = ["pins", "the twin", "a copy"];
+        let each = names.iter().zip(ratios).zip(limits);
+        each.filter(|((_, ratio), limit)| ratio > limit)
+            .map(|((name, ratio), limit)| {
+                let part = selection.making.part;
+                let name_of = selection.name;
+                format!("{name_of} on part {part} takes {ratio:.4} of {name}, above {limit}")
+            })
+            .collect()
+    }
+}
+
+fn read(part: u32) -> Selection {
+    let input = [addressed(part, 3, 0), vec![0; BYTES]].concat();
+    Selection::long("READ", part, Script::spi(), input)
+}
+
+fn write(part: u32) -> Selection {
+    let mut rng = Rng::new(4);
+    let mut script = Script::spi();
+    script.command(&[6]);
+    let data = (0..BYTES).map(|_| rng.byte()).collect();
+    Selection::long(
+        "WRITE",
+        part,
+        script,
+        [addressed(part, 2, 0), data].concat(),
+    )
+}
+
+fn enable(part: u32) -> Selection {
+    Selection::short("WREN", part, vec![6])
+}
+
+fn status(part: u32) -> Selection {
+    Selection::short("RDSR", part, vec![5, 0])
+}
+
+impl Selection {
+    fn size(&self) -> usize {
+        PARTS[self.making.part as usize].size
+    }
+
+    fn long(name: &'static str, part: u32, before: Script, input: Vec<u8>) -> Selection {
+        Selection::of(name, part, before, input, [20_000, 40])
+    }
+
+    fn short(name: &'static str, part: u32, input: Vec<u8>) -> Selection {
+        Selection::of(name, part, Script::spi(), input, [200_000, 50_000])
+    }
+
+    fn of(
+        name: &'static str,
+        part: u32,
+        before: Script,
+        input: Vec<u8>,
+        [calls, calls_by_pins]: [usize; 2],
+    ) -> Selection {
+        let before = before.into_trace();
+        Selection {
+            name,
+            making: Making {
+                part,
+                pins: 0,
+                bits: 0,
+            },
+            pins: [&before[..], &spelled(true, &input)].concat(),
+            before,
+            input,
+            calls,
+            calls_by_pins,
+        }
+    }
+}
+
+/// A selection with the buffers that its calls are lent.
+struct Bench<'a> {
+    selection: &'a Selection,
+    memory: Vec<u8>,
+    output: Vec<u8>,
+}
+
+/// How many things are measured in a round.
+const MEASURES: usize = 6;
+
+impl<'a> Bench<'a> {
+    /// All that is measured in a round; each gives the seconds of one call.
+    const ALL: [fn(&mut Bench<'a>) -> f64; MEASURES] = [
+        Bench::by_bytes,
+        Bench::by_pins,
+        Bench::before,
+        Bench::by_twin,
+        Bench::before_by_twin,
+        Bench::copied,
+    ];
+
+    fn new(selection: &'a Selection) -> Bench<'a> {
+        Bench {
+            selection,
+            memory: first_memory(selection.size()),
+            output: vec![0; selection.input.len()],
+        }
+    }
+
+    /// Each measure once.
+    fn round(&mut self, round: usize) -> Round {
+        let mut seconds = [0.0; MEASURES];
+        for turn in 0..MEASURES {
+            let which = (round + turn) % MEASURES;
+            seconds[which] = Bench::ALL[which](self);
+        }
+        let [bytes, pins, before, twin, before_by_twin, copy] = seconds;
+        [bytes - before, pins - before, twin - before_by_twin, copy]
+    }
+
+    /// Both sides give the same, so that the same work is timed.
+    fn agree(&mut self) {
+        let Selection {
+            making,
+            before,
+            input,
+            ..
+        } = self.selection;
+        let mut model = self.twin();
+        let (mut output, mut memory) = (self.output.clone(), self.memory.clone());
+        let theirs = model.select(true, input, &mut output, &mut memory);
+        let ours = drive::select(
+            *making,
+            before,
+            1,
+            input,
+            &mut self.output,
+            &mut self.memory,
+        );
+        let same = (ours, &self.output, &self.memory) == (theirs, &output, &memory);
+        assert!(same, "the two sides differ");
+    }
+
+    fn by_bytes(&mut self) -> f64 {
+        let Selection {
+            making,
+            before,
+            input,
+            ..
+        } = self.selection;
+        repeated(self.selection.calls, || {
+            let (before, input) = (black_box(&before[..]), black_box(&input[..]));
+            drive::select(
+                *making,
+                before,
+                1,
+                input,
+                &mut self.output,
+                &mut self.memory,
+            )
+            .number
+        })
+    }
+
+    fn by_pins(&mut self) -> f64 {
+        self.run(&self.selection.pins, self.selection.calls_by_pins)
+    }
+
+    fn before(&mut self) -> f64 {
+        self.run(&self.selection.before, self.selection.calls)
+    }
+
+    fn run(&mut self, trace: &[u8], calls: usize) -> f64 {
+        repeated(calls, || {
+            drive::run(
+                self.selection.making,
+                u64::MAX,
+                black_box(trace),
+                &mut self.memory,
+                None,
+            )
+            .number
+        })
+    }
+
+    fn by_twin(&mut self) -> f64 {
+        repeated(self.selection.calls, || {
+            let input = black_box(&self.selection.input[..]);
+            let mut model = self.twin();
+            let selected = model.select(true, input, &mut self.output, &mut self.memory);
+            black_box((model, selected)).1.number
+        })
+    }
+
+    fn before_by_twin(&mut self) -> f64 {
+        repeated(self.selection.calls, || {
+            black_box(self.twin());
+            0
+        })
+    }
+
+    /// The twin's model as it is before the selection.
+    fn twin(&mut self) -> Model {
+        let (_, mut model) = Model::make(self.selection.making.part, 0, 0);
+        let before = black_box(&self.selection.before[..]);
+        model.run_each(before, u64::MAX, &mut self.memory, |_| ());
+        model
+    }
+
+    fn copied(&mut self) -> f64 {
+        repeated(self.selection.calls, || {
+            black_box(&mut self.output[..]).copy_from_slice(black_box(&self.selection.input));
+            0
+        })
+    }
+}
+
+/// The seconds of one of so many calls, each of which gives the number 0.
+fn repeated(calls: usize, mut call: impl FnMut() -> u8) -> f64 {
+    let (numbers, seconds) = timed(|| (0..calls).fold(0, |all, _| all | black_box(call())));
+    assert_eq!(numbers, 0, "a call is refused");
+    seconds / calls as f64
+}
+
+/// Seconds of a round: by bytes, by pins, by the twin, of a copy.
+type Round = [f64; 4];
+
+/// Rounds that begin with each of the measures in turn.
+fn measure(selection: &Selection, rounds: usize) -> [f64; 3] {
+    let mut bench = Bench::new(selection);
+    bench.agree();
+    let times: Vec<Round> = (0..rounds).map(|round| bench.round(round)).collect();
+    shown(selection, &times)
+}
+
+/// Prints the medians. The ratios are those of the times of a round, so that a load that comes and
+/// goes falls on all.
+fn shown(selection: &Selection, times: &[Round]) -> [f64; 3] {
+    let (length, size) = (selection.input.len(), selection.size());
+    let nanos = |at: usize| median(times, |it| it[at]) * 1e9 / length as f64;
+    let ratios = [1, 2, 3].map(|at| median(times, |it| it[0] / it[at]));
+    print!("{:<9} {size:>9} {length:>6}    ", selection.name);
+    print!(
+        "{:>8.3} {:>8.2} {:>8.3} {:>6.3}  ",
+        nanos(0),
+        nanos(1),
+        nanos(2),
+        nanos(3)
+    );
+    println!("{:>6.4} {:>6.2} {:>6.2}", ratios[0], ratios[1], ratios[2]);
+    ratios
+}
