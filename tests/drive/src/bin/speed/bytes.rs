@@ -1,10 +1,10 @@
 //! Selections as bytes: the proved build by bytes and by pins, the twin by bytes, and a copy of as
 //! many bytes. Each call makes a model and runs what comes before the selection, so the time of
-//! that alone, taken in the same round, is subtracted.
+//! that alone, taken in the same turn, is subtracted.
 
 use crate::{median, timed};
 use drive::script::{addressed, Script};
-use drive::Making;
+use drive::{Making, Selected};
 use std::hint::black_box;
 use twin::bytes::spelled;
 use twin::gen::Rng;
@@ -14,7 +14,11 @@ use twin::{Model, PARTS};
 /// Data bytes of a long selection: the smallest memory once.
 const BYTES: usize = 4_096;
 
-/// A selection and how often its time is taken in a round, so that the clock's grain is lost in it.
+/// A round has so many turns of all measures. The machine's rate moves within a second, so what is
+/// compared is timed within milliseconds, and the medians are those of the turns.
+const TURNS: usize = 20;
+
+/// A selection and how often it is called in a turn, so that the clock's grain is lost in it.
 struct Selection {
     name: &'static str,
     making: Making,
@@ -108,11 +112,11 @@ impl Selection {
     }
 
     fn long(name: &'static str, part: u32, before: Script, input: Vec<u8>) -> Selection {
-        Selection::of(name, part, before, input, [20_000, 40])
+        Selection::of(name, part, before, input, [1_000, 4])
     }
 
     fn short(name: &'static str, part: u32, input: Vec<u8>) -> Selection {
-        Selection::of(name, part, Script::spi(), input, [200_000, 50_000])
+        Selection::of(name, part, Script::spi(), input, [10_000, 5_000])
     }
 
     fn of(
@@ -139,18 +143,42 @@ impl Selection {
     }
 }
 
-/// A selection with the buffers that its calls are lent.
-struct Bench<'a> {
-    selection: &'a Selection,
-    memory: Vec<u8>,
-    output: Vec<u8>,
+/// Bytes that begin at a given place of a page. A copy takes many times as long where what it
+/// writes is a few bytes ahead of what it reads, each by its place in its page; left to chance, that
+/// would tell more of the addresses than of the copying.
+struct Placed {
+    room: Vec<u8>,
+    at: std::ops::Range<usize>,
 }
 
-/// How many things are measured in a round.
+impl Placed {
+    fn new(bytes: &[u8], place: usize) -> Placed {
+        const PAGE: usize = 4_096;
+        let mut room = vec![0; bytes.len() + 2 * PAGE];
+        let begin = room.as_ptr().align_offset(PAGE) + place;
+        let at = begin..begin + bytes.len();
+        room[at.clone()].copy_from_slice(bytes);
+        Placed { room, at }
+    }
+
+    fn bytes(&mut self) -> &mut [u8] {
+        black_box(&mut self.room[self.at.clone()])
+    }
+}
+
+/// A selection with the buffers that its calls are lent, a quarter of a page apart.
+struct Bench<'a> {
+    selection: &'a Selection,
+    memory: Placed,
+    input: Placed,
+    output: Placed,
+}
+
+/// How many things are measured.
 const MEASURES: usize = 6;
 
 impl<'a> Bench<'a> {
-    /// All that is measured in a round; each gives the seconds of one call.
+    /// All that is measured; each gives the seconds of one call.
     const ALL: [fn(&mut Bench<'a>) -> f64; MEASURES] = [
         Bench::by_bytes,
         Bench::by_pins,
@@ -163,16 +191,17 @@ impl<'a> Bench<'a> {
     fn new(selection: &'a Selection) -> Bench<'a> {
         Bench {
             selection,
-            memory: first_memory(selection.size()),
-            output: vec![0; selection.input.len()],
+            memory: Placed::new(&first_memory(selection.size()), 0),
+            input: Placed::new(&selection.input, 1_024),
+            output: Placed::new(&vec![0; selection.input.len()], 2_048),
         }
     }
 
-    /// Each measure once.
-    fn round(&mut self, round: usize) -> Round {
+    /// Each measure once; one begins that is another each time.
+    fn turn(&mut self, turn: usize) -> Seconds {
         let mut seconds = [0.0; MEASURES];
-        for turn in 0..MEASURES {
-            let which = (round + turn) % MEASURES;
+        for at in 0..MEASURES {
+            let which = (turn + at) % MEASURES;
             seconds[which] = Bench::ALL[which](self);
         }
         let [bytes, pins, before, twin, before_by_twin, copy] = seconds;
@@ -181,46 +210,48 @@ impl<'a> Bench<'a> {
 
     /// Both sides give the same, so that the same work is timed.
     fn agree(&mut self) {
-        let Selection {
-            making,
-            before,
-            input,
-            ..
-        } = self.selection;
-        let mut model = self.twin();
-        let (mut output, mut memory) = (self.output.clone(), self.memory.clone());
-        let theirs = model.select(true, input, &mut output, &mut memory);
-        let ours = drive::select(
+        let theirs = self.twin_selected();
+        let left = (self.output.bytes().to_vec(), self.memory.bytes().to_vec());
+        self.output.bytes().fill(0);
+        self.memory
+            .bytes()
+            .copy_from_slice(&first_memory(self.selection.size()));
+        let ours = self.selected();
+        assert_eq!(ours, theirs, "the two sides differ");
+        let same = left.0 == self.output.bytes() && left.1 == self.memory.bytes();
+        assert!(same, "the two sides differ in what they leave");
+    }
+
+    fn selected(&mut self) -> Selected {
+        let Selection { making, before, .. } = self.selection;
+        let (output, memory) = (self.output.bytes(), self.memory.bytes());
+        drive::select(
             *making,
-            before,
+            black_box(before),
             1,
-            input,
-            &mut self.output,
-            &mut self.memory,
-        );
-        let same = (ours, &self.output, &self.memory) == (theirs, &output, &memory);
-        assert!(same, "the two sides differ");
+            self.input.bytes(),
+            output,
+            memory,
+        )
+    }
+
+    fn twin_selected(&mut self) -> Selected {
+        let mut model = self.twin();
+        let (output, memory) = (self.output.bytes(), self.memory.bytes());
+        let selected = model.select(true, self.input.bytes(), output, memory);
+        black_box((model, selected)).1
+    }
+
+    /// The twin's model as it is before the selection.
+    fn twin(&mut self) -> Model {
+        let (_, mut model) = Model::make(self.selection.making.part, 0, 0);
+        let before = black_box(&self.selection.before[..]);
+        model.run_each(before, u64::MAX, self.memory.bytes(), |_| ());
+        model
     }
 
     fn by_bytes(&mut self) -> f64 {
-        let Selection {
-            making,
-            before,
-            input,
-            ..
-        } = self.selection;
-        repeated(self.selection.calls, || {
-            let (before, input) = (black_box(&before[..]), black_box(&input[..]));
-            drive::select(
-                *making,
-                before,
-                1,
-                input,
-                &mut self.output,
-                &mut self.memory,
-            )
-            .number
-        })
+        repeated(self.selection.calls, || self.selected().number)
     }
 
     fn by_pins(&mut self) -> f64 {
@@ -232,12 +263,13 @@ impl<'a> Bench<'a> {
     }
 
     fn run(&mut self, trace: &[u8], calls: usize) -> f64 {
+        let making = self.selection.making;
         repeated(calls, || {
             drive::run(
-                self.selection.making,
+                making,
                 u64::MAX,
                 black_box(trace),
-                &mut self.memory,
+                self.memory.bytes(),
                 None,
             )
             .number
@@ -245,12 +277,7 @@ impl<'a> Bench<'a> {
     }
 
     fn by_twin(&mut self) -> f64 {
-        repeated(self.selection.calls, || {
-            let input = black_box(&self.selection.input[..]);
-            let mut model = self.twin();
-            let selected = model.select(true, input, &mut self.output, &mut self.memory);
-            black_box((model, selected)).1.number
-        })
+        repeated(self.selection.calls, || self.twin_selected().number)
     }
 
     fn before_by_twin(&mut self) -> f64 {
@@ -260,17 +287,9 @@ impl<'a> Bench<'a> {
         })
     }
 
-    /// The twin's model as it is before the selection.
-    fn twin(&mut self) -> Model {
-        let (_, mut model) = Model::make(self.selection.making.part, 0, 0);
-        let before = black_box(&self.selection.before[..]);
-        model.run_each(before, u64::MAX, &mut self.memory, |_| ());
-        model
-    }
-
     fn copied(&mut self) -> f64 {
         repeated(self.selection.calls, || {
-            black_box(&mut self.output[..]).copy_from_slice(black_box(&self.selection.input));
+            self.output.bytes().copy_from_slice(self.input.bytes());
             0
         })
     }
@@ -283,20 +302,20 @@ fn repeated(calls: usize, mut call: impl FnMut() -> u8) -> f64 {
     seconds / calls as f64
 }
 
-/// Seconds of a round: by bytes, by pins, by the twin, of a copy.
-type Round = [f64; 4];
+/// Seconds of a selection alone: by bytes, by pins, by the twin, and of a copy.
+type Seconds = [f64; 4];
 
-/// Rounds that begin with each of the measures in turn.
 fn measure(selection: &Selection, rounds: usize) -> [f64; 3] {
     let mut bench = Bench::new(selection);
     bench.agree();
-    let times: Vec<Round> = (0..rounds).map(|round| bench.round(round)).collect();
+    let turns = 0..rounds * TURNS;
+    let times: Vec<Seconds> = turns.map(|turn| bench.turn(turn)).collect();
     shown(selection, &times)
 }
 
-/// Prints the medians. The ratios are those of the times of a round, so that a load that comes and
+/// Prints the medians. The ratios are those of the times of a turn, so that a load that comes and
 /// goes falls on all.
-fn shown(selection: &Selection, times: &[Round]) -> [f64; 3] {
+fn shown(selection: &Selection, times: &[Seconds]) -> [f64; 3] {
     let (length, size) = (selection.input.len(), selection.size());
     let nanos = |at: usize| median(times, |it| it[at]) * 1e9 / length as f64;
     let ratios = [1, 2, 3].map(|at| median(times, |it| it[0] / it[at]));
