@@ -1,5 +1,9 @@
 //! The line format of the vectors, and what the programs print.
 
+mod byte_line;
+
+pub use byte_line::{ByteLine, OUTPUT_BEFORE};
+
 use crate::model::{Model, Ran};
 
 /// One line: part pins bits trace number count offset answers changed.
@@ -32,7 +36,6 @@ impl Line {
         let mut memory = first_memory(model.part().size);
         let mut answers = Vec::new();
         let ran = model.run(trace, u64::MAX, &mut memory, &mut answers);
-        let differs = |&(address, byte): &(usize, u8)| byte != first_byte(address);
         Line {
             part,
             pins,
@@ -40,7 +43,7 @@ impl Line {
             trace: trace.to_vec(),
             ran,
             answers,
-            changed: memory.into_iter().enumerate().filter(differs).collect(),
+            changed: changed_cells(memory),
         }
     }
 
@@ -69,14 +72,9 @@ impl Line {
 
 impl std::fmt::Display for Line {
     fn fmt(&self, to: &mut std::fmt::Formatter<'_>) -> std::fmt::Result {
-        let trace: String = self
-            .trace
-            .iter()
-            .map(|byte| format!("{byte:02x}"))
-            .collect();
+        let trace = hex(&self.trace);
         let answers: String = self.answers.iter().map(|&answer| letter(answer)).collect();
-        let cell = |(address, byte): &(usize, u8)| format!("{address:05x}={byte:02x}");
-        let changed: Vec<String> = self.changed.iter().map(cell).collect();
+        let changed = write_changed(&self.changed);
         write!(
             to,
             "{} {} {} {} ",
@@ -90,7 +88,7 @@ impl std::fmt::Display for Line {
             "{} {} {} ",
             self.ran.number, self.ran.count, self.ran.offset
         )?;
-        write!(to, "{} {}", or_dash(&answers), or_dash(&changed.join(",")))
+        write!(to, "{} {}", or_dash(&answers), or_dash(&changed))
     }
 }
 
@@ -118,6 +116,23 @@ pub fn program(part: u32, input: &[u8]) -> String {
         out.push('\n');
     }
     out + &format!("{} {} {}\n", ran.number, ran.count, ran.offset)
+}
+
+/// The cells that are not as in the first memory.
+fn changed_cells(memory: Vec<u8>) -> Vec<(usize, u8)> {
+    let differs = |&(address, byte): &(usize, u8)| byte != first_byte(address);
+    memory.into_iter().enumerate().filter(differs).collect()
+}
+
+fn write_changed(changed: &[(usize, u8)]) -> String {
+    let cell = |(address, byte): &(usize, u8)| format!("{address:05x}={byte:02x}");
+    let cells: Vec<String> = changed.iter().map(cell).collect();
+    cells.join(",")
+}
+
+/// Two hex digits for each byte.
+pub fn hex(bytes: &[u8]) -> String {
+    bytes.iter().map(|byte| format!("{byte:02x}")).collect()
 }
 
 fn or_dash(text: &str) -> &str {
