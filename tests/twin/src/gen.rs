@@ -1,8 +1,11 @@
 //! A seeded generator of structured traces for all five parts. It drives a model while it writes,
 //! so that its expected answers (05) can be right.
 
+mod bytes;
 mod i2c;
 mod spi;
+
+pub use bytes::{byte_case, selection_bytes, ByteCase};
 
 use crate::model::Model;
 use crate::part::{i2c_pin, spi_pin, Part, Wires, PARTS};
@@ -317,17 +320,22 @@ impl<'a> Bench<'a> {
         self.change(if high { wire } else { 0 }, wire);
     }
 
-    /// An address near a border, near the top, near 0, or any; sometimes past the size.
+    /// An address as `border_address` draws it.
     fn address(&mut self) -> u32 {
-        let size = self.part.size as u32;
-        let border = self.rng.pick(&self.part.protected_from) as u32;
-        let near = self.rng.pick(&[border, size, 0x10000, 0, size / 2]);
-        let step = self.rng.below(4) as u32;
-        match self.rng.below(5) {
-            0 => self.rng.draw() as u32 & 0xff_ffff,
-            1 => near.wrapping_add(step) & 0xff_ffff,
-            2 => near.wrapping_add(size).wrapping_sub(step) & 0xff_ffff,
-            _ => near.wrapping_sub(step) % size,
-        }
+        border_address(self.rng, self.part)
+    }
+}
+
+/// An address near a border, near the top, near 0, or any; sometimes past the size.
+fn border_address(rng: &mut Rng, part: &Part) -> u32 {
+    let size = part.size as u32;
+    let border = rng.pick(&part.protected_from) as u32;
+    let near = rng.pick(&[border, size, 0x10000, 0, size / 2]);
+    let step = rng.below(4) as u32;
+    match rng.below(5) {
+        0 => rng.draw() as u32 & 0xff_ffff,
+        1 => near.wrapping_add(step) & 0xff_ffff,
+        2 => near.wrapping_add(size).wrapping_sub(step) & 0xff_ffff,
+        _ => near.wrapping_sub(step) % size,
     }
 }

@@ -1,6 +1,7 @@
 //! A selection by pins: the meaning that the byte path is held against.
 
 use twin::bytes::spelled;
+use twin::text::OUTPUT_BEFORE;
 use twin::{Model, Selected};
 
 /// The spelled samples one by one. A bit that comes back is the answer just before the rise that
@@ -40,10 +41,51 @@ fn figures(bytes: &[&[u8]]) -> Selected {
         .iter()
         .take_while(|eight| driven(eight))
         .count();
-    assert!(!bytes[first + count..].iter().any(|eight| driven(&eight)));
+    assert!(!bytes[first + count..].iter().any(driven));
     Selected {
         number: 0,
         first: first as u64,
         count: count as u64,
+    }
+}
+
+/// A selection taken by bytes and by pins, from the same model and memory each time.
+pub struct Both {
+    model: Model,
+    memory: Vec<u8>,
+    by_bytes: Vec<u8>,
+    by_pins: Vec<u8>,
+}
+
+impl Both {
+    pub fn new(model: &Model, memory: &[u8]) -> Both {
+        Both {
+            model: model.clone(),
+            memory: memory.to_vec(),
+            by_bytes: memory.to_vec(),
+            by_pins: memory.to_vec(),
+        }
+    }
+
+    /// All that the two give must be alike: the model, the memory, the bytes and the figures.
+    pub fn agree(&mut self, wp: bool, input: &[u8]) -> (Vec<u8>, Selected) {
+        let (mut bytes, mut pins) = (self.model.clone(), self.model.clone());
+        let mut output = vec![OUTPUT_BEFORE; input.len()];
+        let selected = bytes.select(wp, input, &mut output, &mut self.by_bytes);
+        let spelled = by_pins(&mut pins, &mut self.by_pins, wp, input);
+        let about = || format!("{input:02x?}, WP# {wp}, on {:?}", self.model);
+        assert_eq!((&output, selected), (&spelled.0, spelled.1), "{}", about());
+        assert_eq!(bytes, pins, "{}", about());
+        assert!(self.by_bytes == self.by_pins, "memory: {}", about());
+        self.again();
+        (output, selected)
+    }
+
+    /// Puts the memory back where a selection changed it.
+    fn again(&mut self) {
+        if self.by_bytes != self.memory {
+            self.by_bytes.copy_from_slice(&self.memory);
+            self.by_pins.copy_from_slice(&self.memory);
+        }
     }
 }
