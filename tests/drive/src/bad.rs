@@ -43,38 +43,41 @@ fn storing(part: &Part) -> Call {
     Call::whole(plain(part.number), script.into_trace())
 }
 
-fn plain(part: u32) -> Making {
-    Making {
-        part,
-        pins: 0,
-        bits: 0,
-    }
+pub(crate) fn plain(part: u32) -> Making {
+    Making::new(part, 0, 0)
 }
 
 /// Parts out of range, 256 among them, which cut to a byte would be part 0.
+pub(crate) const NO_PARTS: [u32; 8] = [5, 6, 255, 256, 257, 1 << 16, 1 << 31, u32::MAX];
+
 fn parts() -> Vec<(Call, u8)> {
     let good = storing(&PARTS[0]);
     let with = |part| Call {
         making: plain(part),
         ..good.clone()
     };
-    [5, 6, 255, 256, 257, 1 << 16, 1 << 31, u32::MAX]
-        .map(|part| (with(part), 1))
-        .into()
+    NO_PARTS.map(|part| (with(part), 1)).into()
 }
 
-/// Pins and bits out of range, 256 among them; 1 comes before 3, whatever the memory.
+/// Pins and bits out of range, 256 among them.
+pub(crate) fn no_makings(part: &Part) -> Vec<Making> {
+    let beyond = |most: u32| [most + 1, 8, 255, 256, 1 << 16, u32::MAX];
+    let pins = beyond(part.max_pins).map(|pins| Making::new(part.number, pins, 0));
+    let bits = beyond(part.max_bits).map(|bits| Making::new(part.number, 0, bits));
+    [pins, bits].concat()
+}
+
+/// Lengths of memory that are not the part's, those of the other parts among them.
+pub(crate) fn no_sizes(part: &Part) -> Vec<usize> {
+    let near = [0, 1, part.size - 1, part.size + 1];
+    let others = PARTS.iter().map(|part| part.size);
+    let all = near.into_iter().chain(others);
+    all.filter(|&it| it != part.size).collect()
+}
+
+/// 1 comes before 3, whatever the memory.
 fn makings(part: &Part) -> Vec<(Call, u8)> {
     let good = storing(part);
-    let beyond = |most: u32| [most + 1, 8, 255, 256, 1 << 16, u32::MAX];
-    let pins = beyond(part.max_pins).map(|pins| Making {
-        pins,
-        ..good.making
-    });
-    let bits = beyond(part.max_bits).map(|bits| Making {
-        bits,
-        ..good.making
-    });
     let both = |making| {
         [part.size, 0].map(|memory| Call {
             making,
@@ -82,16 +85,13 @@ fn makings(part: &Part) -> Vec<(Call, u8)> {
             ..good.clone()
         })
     };
-    let bad = pins.into_iter().chain(bits).flat_map(both);
+    let bad = no_makings(part).into_iter().flat_map(both);
     bad.map(|call| (call, 1)).collect()
 }
 
-/// Memories of another length, the other parts' among them, also with nothing to run.
+/// Memories of another length, also with nothing to run.
 fn memories(part: &Part) -> Vec<(Call, u8)> {
     let good = storing(part);
-    let near = [0, 1, part.size - 1, part.size + 1];
-    let others = PARTS.iter().map(|part| part.size);
-    let wrong = near.into_iter().chain(others).filter(|&it| it != part.size);
     let each = |memory| {
         let call = Call {
             memory,
@@ -103,7 +103,8 @@ fn memories(part: &Part) -> Vec<(Call, u8)> {
         };
         [call.stopped(0), nothing, call]
     };
-    wrong.flat_map(each).map(|call| (call, 3)).collect()
+    let bad = no_sizes(part).into_iter().flat_map(each);
+    bad.map(|call| (call, 3)).collect()
 }
 
 /// Nothing to run, no quota, and an unknown kind that no quota reaches.
@@ -130,14 +131,16 @@ fn traces(part: &Part) -> Vec<(Call, u8)> {
     ]
 }
 
-/// A result of another length than 16 is left, and the run is the same.
+/// Lengths of a result. Any but 16 is left, and the call is the same.
+pub(crate) const RESULTS: [usize; 6] = [0, 1, 15, 16, 17, 32];
+
 fn results(part: &Part) -> Vec<(Call, u8)> {
     let good = storing(part);
     let with = |result| Call {
         result,
         ..good.clone()
     };
-    [0, 1, 15, 16, 17, 32].map(|it| (with(it), 0)).into()
+    RESULTS.map(|it| (with(it), 0)).into()
 }
 
 /// Answers with every room up to one more than there are events.

@@ -1,15 +1,13 @@
 //! One call of the proved build and the same run of the twin, compared in all that a host can see,
 //! and its memory with the ledger's.
 
+use crate::outcome::{first_difference, result_of, Outcome, LEFT};
 use crate::tally::events;
 use crate::{Lent, Making, Ran};
 use std::fmt;
 use twin::gen::Case;
-use twin::text::{first_byte, first_memory};
+use twin::text::{first_memory, hex};
 use twin::{Ledger, Model, PARTS};
-
-/// What is lent to be written is filled with this, so that a byte left as it is can be told.
-const LEFT: u8 = 0xa5;
 
 /// A call, with the lengths of what it lends. The memory is the first memory of the vectors.
 #[derive(Clone, Debug)]
@@ -21,15 +19,6 @@ pub struct Call {
     /// None for `sildrokk_run`.
     pub answers: Option<usize>,
     pub result: usize,
-}
-
-/// What the call left behind.
-#[derive(PartialEq, Eq)]
-struct Outcome {
-    number: u8,
-    memory: Vec<u8>,
-    answers: Option<Vec<u8>>,
-    result: Vec<u8>,
 }
 
 /// What both gave.
@@ -57,12 +46,7 @@ impl Call {
     }
 
     pub fn of(case: Case) -> Call {
-        let making = Making {
-            part: case.part,
-            pins: case.pins,
-            bits: case.bits,
-        };
-        Call::whole(making, case.trace)
+        Call::whole(Making::new(case.part, case.pins, case.bits), case.trace)
     }
 
     /// The same call of `sildrokk_run`, stopped after so many events.
@@ -76,38 +60,48 @@ impl Call {
 
     /// What both gave, or a line that says in what they differ.
     pub fn compare(&self) -> Result<Agreed, String> {
+        self.compare_left().map(|(agreed, _)| agreed)
+    }
+
+    /// The same, with what is left behind.
+    pub(crate) fn compare_left(&self) -> Result<(Agreed, Outcome), String> {
         let ours = self.proved();
         let (ran, theirs) = self.twin();
-        if ours != theirs {
-            return Err(ours.difference(&theirs));
+        if let Some(difference) = ours.difference(&theirs, "answer") {
+            return Err(difference);
         }
-        let differs = |&(address, &byte): &(usize, &u8)| byte != first_byte(address);
-        let changed = ours.memory.iter().enumerate().filter(differs).count() as u64;
-        let stored = match &ours.answers {
+        let stored = match &ours.shown {
             Some(answers) if ran.count <= answers.len() as u64 => {
                 self.told(ran.count, answers, &ours.memory)?
             }
             _ => 0,
         };
-        Ok(Agreed {
+        let agreed = Agreed {
             ran,
-            changed,
+            changed: ours.changed(),
             stored,
-        })
+        };
+        Ok((agreed, ours))
     }
 
     /// What the ledger of the accepted events says was stored, if it has the same memory.
     fn told(&self, count: u64, answers: &[u8], memory: &[u8]) -> Result<u64, String> {
+        let ledger = self.ledger(count, answers);
+        match first_difference("memory byte", memory, ledger.memory()) {
+            Some(difference) => Err(format!("{difference}, says the ledger")),
+            None => Ok(ledger.stored()),
+        }
+    }
+
+    /// The ledger of so many events, all accepted with these answers.
+    pub(crate) fn ledger(&self, count: u64, answers: &[u8]) -> Ledger {
         let Making { part, pins, bits } = self.making;
         let mut ledger = Ledger::begin(part, pins, bits, &first_memory(self.memory));
         let accepted = events(&self.trace).take(count as usize);
         accepted
             .zip(answers)
             .for_each(|(event, &answer)| ledger.feed(event, answer));
-        match first_difference("memory byte", memory, ledger.memory()) {
-            Some(difference) => Err(format!("{difference}, says the ledger")),
-            None => Ok(ledger.stored()),
-        }
+        ledger
     }
 
     fn proved(&self) -> Outcome {
@@ -123,7 +117,7 @@ impl Call {
         Outcome {
             number: crate::call(self.making, self.quota, lent),
             memory,
-            answers,
+            shown: answers,
             result,
         }
     }
@@ -144,62 +138,25 @@ impl Call {
         let outcome = Outcome {
             number: ran.number,
             memory,
-            answers: self.answers.map(|length| {
+            shown: self.answers.map(|length| {
                 answers.resize(length, LEFT);
                 answers
             }),
-            result: self.result_of(&ran),
+            result: result_of(self.result, ran.count, ran.offset),
         };
         (ran, outcome)
-    }
-
-    /// Count and offset, most significant byte first, if the result has just the room for them.
-    fn result_of(&self, ran: &Ran) -> Vec<u8> {
-        if self.result == 16 {
-            [ran.count.to_be_bytes(), ran.offset.to_be_bytes()].concat()
-        } else {
-            vec![LEFT; self.result]
-        }
     }
 }
 
 /// Enough to make the call again by hand.
 impl fmt::Display for Call {
     fn fmt(&self, to: &mut fmt::Formatter<'_>) -> fmt::Result {
-        let Making { part, pins, bits } = self.making;
-        write!(
-            to,
-            "part {part} pins {pins} bits {bits} quota {}, ",
-            self.quota
-        )?;
+        write!(to, "{} quota {}, ", self.making, self.quota)?;
         write!(to, "lengths: memory {}, answers ", self.memory)?;
         match self.answers {
             Some(answers) => write!(to, "{answers}")?,
             None => write!(to, "none")?,
         }
-        write!(to, ", result {}; trace ", self.result)?;
-        self.trace.iter().try_for_each(|it| write!(to, "{it:02x}"))
+        write!(to, ", result {}; trace {}", self.result, hex(&self.trace))
     }
-}
-
-impl Outcome {
-    /// The first thing in which ours differs from theirs.
-    fn difference(&self, theirs: &Outcome) -> String {
-        if self.number != theirs.number {
-            return format!("number {} and not {}", self.number, theirs.number);
-        }
-        if self.result != theirs.result {
-            return format!("result {:02x?} and not {:02x?}", self.result, theirs.result);
-        }
-        let (ours, others) = (self.answers.as_deref(), theirs.answers.as_deref());
-        first_difference("answer", ours.unwrap_or(&[]), others.unwrap_or(&[]))
-            .or_else(|| first_difference("memory byte", &self.memory, &theirs.memory))
-            .unwrap_or_default()
-    }
-}
-
-fn first_difference(what: &str, ours: &[u8], theirs: &[u8]) -> Option<String> {
-    let at = ours.iter().zip(theirs).position(|(one, two)| one != two)?;
-    let (one, two) = (ours[at], theirs[at]);
-    Some(format!("{what} {at:#x} is {one:02x} and not {two:02x}"))
 }

@@ -5,12 +5,16 @@
 
 mod archive;
 pub mod bad;
+pub mod bad_bytes;
+pub mod byte_call;
 pub mod call;
 pub mod more;
+mod outcome;
 pub mod script;
 pub mod tally;
 
 pub use archive::{call, call_bytes, Lent, LentBytes};
+pub use outcome::changed;
 pub use twin::{Ran, Selected};
 
 /// What a model is made of; any numbers.
@@ -19,6 +23,19 @@ pub struct Making {
     pub part: u32,
     pub pins: u32,
     pub bits: u32,
+}
+
+impl Making {
+    pub fn new(part: u32, pins: u32, bits: u32) -> Making {
+        Making { part, pins, bits }
+    }
+}
+
+impl std::fmt::Display for Making {
+    fn fmt(&self, to: &mut std::fmt::Formatter<'_>) -> std::fmt::Result {
+        let Making { part, pins, bits } = self;
+        write!(to, "part {part} pins {pins} bits {bits}")
+    }
 }
 
 /// A run of the proved build with a result that it fills.

@@ -1,5 +1,6 @@
 //! What many compared traces of a part amount to, so that nobody takes refusals for agreement.
 
+use crate::byte_call::BytesAgreed;
 use crate::call::Agreed;
 use std::fmt;
 
@@ -51,6 +52,36 @@ impl fmt::Display for Tally {
 pub const HEAD: &str =
     "   traces     accepted   share    stored   ended by 0        4        5        \
                         6        7        8        9";
+
+/// What many compared selections as bytes amount to.
+#[derive(Clone, Debug, Default)]
+pub struct ByteTally {
+    pub selections: u64,
+    /// Bytes that came back driven.
+    pub driven: u64,
+    /// Bytes that the selections stored.
+    pub stored: u64,
+    /// Selections by their number.
+    pub numbers: [u64; 14],
+}
+
+impl ByteTally {
+    pub fn add(&mut self, agreed: &BytesAgreed) {
+        self.selections += 1;
+        self.driven += agreed.selected.count;
+        self.stored += agreed.stored;
+        self.numbers[usize::from(agreed.selected.number)] += 1;
+    }
+}
+
+impl fmt::Display for ByteTally {
+    fn fmt(&self, to: &mut fmt::Formatter<'_>) -> fmt::Result {
+        let taken = self.numbers[0];
+        write!(to, "{} selections as bytes compared, ", self.selections)?;
+        write!(to, "{taken} of them taken: {} bytes ", self.driven)?;
+        write!(to, "driven, {} stored", self.stored)
+    }
+}
 
 /// The events of a trace, whole or not; an unknown kind is one byte.
 pub fn events(trace: &[u8]) -> impl Iterator<Item = &[u8]> {

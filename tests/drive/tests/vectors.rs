@@ -2,7 +2,7 @@
 //! offset, answers and changed cells.
 
 use drive::Making;
-use twin::text::{first_byte, first_memory, Line};
+use twin::text::{first_memory, Line};
 use twin::PARTS;
 
 const BASE: &str = include_str!("../../vectors/base.txt");
@@ -10,11 +10,7 @@ const MORE: &str = include_str!("../../vectors/more.txt");
 
 /// The line that the proved build gives for a line's making and trace.
 fn proved(line: &Line) -> Line {
-    let making = Making {
-        part: line.part,
-        pins: line.pins,
-        bits: line.bits,
-    };
+    let making = Making::new(line.part, line.pins, line.bits);
     let mut memory = first_memory(PARTS[line.part as usize].size);
     let mut answers = vec![0xff; line.trace.len()];
     let ran = drive::run(
@@ -26,11 +22,10 @@ fn proved(line: &Line) -> Line {
     );
     let written = answers.iter().take_while(|&&answer| answer != 0xff).count();
     answers.truncate(written);
-    let differs = |&(address, byte): &(usize, u8)| byte != first_byte(address);
     Line {
         ran,
         answers,
-        changed: memory.into_iter().enumerate().filter(differs).collect(),
+        changed: drive::changed(&memory).collect(),
         ..line.clone()
     }
 }

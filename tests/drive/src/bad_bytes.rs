@@ -1,0 +1,230 @@
+//! Selections as bytes with something wrong or at its limit, each with the number that it is to
+//! return and how many bytes of memory then differ from the first.
+
+use crate::bad::{no_makings, no_sizes, plain, NO_PARTS, RESULTS};
+use crate::byte_call::ByteCall;
+use crate::script::{addressed, Script};
+use twin::part::{spi_pin, Wires};
+use twin::text::first_byte;
+use twin::{Part, PARTS};
+
+/// A call and what is to come of it.
+#[derive(Clone)]
+pub struct Bad {
+    pub call: ByteCall,
+    pub number: u8,
+    pub changed: u64,
+}
+
+/// What the trace of a good call changes in memory.
+const BY_TRACE: u64 = 1;
+/// What the selection of the first good call then changes.
+const BY_SELECTION: u64 = 3;
+/// Where these are.
+const PLACES: [usize; 2] = [0x123, 0x200];
+
+/// All of them.
+pub fn calls() -> Vec<Bad> {
+    let spi = |part| [levels(part), lengths(part), unready(part)];
+    let of_part = |part: &'static Part| {
+        let own = match part.wires {
+            Wires::Spi => spi(part).concat(),
+            Wires::I2c => other_bus(part),
+        };
+        [makings(part), memories(part), traces(part), own].concat()
+    };
+    PARTS.iter().flat_map(of_part).collect()
+}
+
+/// A trace that stores one byte and leaves the part at rest, enabled if it is on SPI.
+fn storing(part: &Part) -> Script {
+    let data = !first_byte(PLACES[0]);
+    match part.wires {
+        Wires::Spi => {
+            let mut script = Script::spi();
+            script.command(&[6]);
+            script.command(&[addressed(part.number, 2, PLACES[0]), vec![data]].concat());
+            script.command(&[6]);
+            script
+        }
+        Wires::I2c => {
+            let mut script = Script::i2c(0);
+            script.start();
+            script.give_all(&[0xa0, 0x01, 0x23, data]);
+            script.stop();
+            script
+        }
+    }
+}
+
+/// After that trace, selections of the part (of part 0 for one that has none): three bytes stored,
+/// four driven, and no bytes at all. Each wrong thing must keep them from that.
+fn good(part: &Part) -> [ByteCall; 3] {
+    let codes_of = if part.wires == Wires::Spi {
+        part.number
+    } else {
+        0
+    };
+    let data: Vec<u8> = (0..3).map(|at| !first_byte(PLACES[1] + at)).collect();
+    let writes = [addressed(codes_of, 2, PLACES[1]), data].concat();
+    let shows = [addressed(codes_of, 3, PLACES[0] - 1), vec![0; 4]].concat();
+    [writes, shows, Vec::new()].map(|input| {
+        let trace = storing(part).into_trace();
+        ByteCall::whole(plain(part.number), trace, 1, input)
+    })
+}
+
+/// Each good call changed in each of some ways, with the number to come.
+fn each_way<T>(
+    part: &Part,
+    ways: &[T],
+    number: u8,
+    changed: u64,
+    change: impl Fn(&mut ByteCall, &T),
+) -> Vec<Bad> {
+    let with = |way: &T| {
+        good(part).map(|mut call| {
+            change(&mut call, way);
+            Bad {
+                call,
+                number,
+                changed,
+            }
+        })
+    };
+    ways.iter().flat_map(with).collect()
+}
+
+/// The same calls, and the same again with a buffer of another length, which is tested last.
+fn with_another_length(all: Vec<Bad>) -> Vec<Bad> {
+    let longer = |bad: &Bad| {
+        let mut longer = bad.clone();
+        longer.call.output += 1;
+        longer
+    };
+    let longer: Vec<Bad> = all.iter().map(longer).collect();
+    [all, longer].concat()
+}
+
+/// No such part, pins or bits; with a memory of any length.
+fn makings(part: &Part) -> Vec<Bad> {
+    let no_parts = NO_PARTS.map(plain).to_vec();
+    let all = [no_makings(part), no_parts].concat();
+    let sizes = [part.size, 0];
+    let each = |&size: &usize| {
+        each_way(part, &all, 1, 0, |call, &making| {
+            call.making = making;
+            call.memory = size;
+        })
+    };
+    with_another_length(sizes.iter().flat_map(each).collect())
+}
+
+/// Memories of another length, whatever the trace: 3 comes before its numbers and before 4 and 12.
+fn memories(part: &Part) -> Vec<Bad> {
+    let sizes = no_sizes(part);
+    let traces = [storing(part).into_trace(), vec![], vec![0xff]];
+    let each = |trace: &Vec<u8>| {
+        each_way(part, &sizes, 3, 0, |call, &size| {
+            call.memory = size;
+            call.trace = trace.clone();
+        })
+    };
+    with_another_length(traces.iter().flat_map(each).collect())
+}
+
+/// Refused events: their number comes before 4, 12 and 13, and what came before them stands. Each
+/// comes at the end of a good trace, without power for 7, and so that CS# is 0 for 12 otherwise.
+fn traces(part: &Part) -> Vec<Bad> {
+    let (low, power_on): (&[u8], &[u8]) = match part.wires {
+        Wires::Spi => (&[4, spi_pin::HOLD], &[1, 0]),
+        Wires::I2c => (&[4, 3], &[2, 3, 0, 0, 0]),
+    };
+    let events: [(&[u8], u8); 8] = [
+        (&[0xff], 4),
+        (&[0], 4),
+        (&[4], 5),
+        (&[5], 5),
+        (&[4, 0xff], 6),
+        (&[5, 3], 6),
+        (power_on, 8),
+        (&[5, 1], 9),
+    ];
+    let refused = |&(event, number): &(&[u8], u8)| {
+        let ends = [event.to_vec(), [low, event].concat()];
+        each_way(part, &ends, number, BY_TRACE, |call, end| {
+            call.trace.extend(end);
+        })
+    };
+    let without_power = [&[3, 4, 0][..], &[3, 3], &[3, 5, 2]];
+    let seven = each_way(part, &without_power, 7, BY_TRACE, |call, &end| {
+        call.trace.extend(end);
+    });
+    let refused = events.iter().flat_map(refused).chain(seven);
+    with_another_length(refused.collect())
+}
+
+/// A part of the other bus, whatever its state.
+fn other_bus(part: &Part) -> Vec<Bad> {
+    let ends: [&[u8]; 3] = [&[], &[3], &[4, 0]];
+    let after = each_way(part, &ends, 4, BY_TRACE, |call, &end| {
+        call.trace.extend(end)
+    });
+    let nothing = each_way(part, &[()], 4, 0, |call, ()| call.trace.clear());
+    with_another_length([after, nothing].concat())
+}
+
+/// No power, or CS# 0 in the last sample or at power on, with a buffer of any length.
+fn unready(part: &Part) -> Vec<Bad> {
+    let low = spi_pin::WP | spi_pin::HOLD;
+    let ends: [&[u8]; 4] = [&[3], &[4, low], &[4, low, 5, 2], &[3, 1, low]];
+    let after = each_way(part, &ends, 12, BY_TRACE, |call, &end| {
+        call.trace.extend(end)
+    });
+    let nothing = each_way(part, &[()], 12, 0, |call, ()| call.trace.clear());
+    with_another_length([after, nothing].concat())
+}
+
+/// A buffer of another length: 13. A result of another length is left, and the call is the same.
+fn lengths(part: &Part) -> Vec<Bad> {
+    let with = |call: &ByteCall, output| Bad {
+        call: ByteCall {
+            output,
+            ..call.clone()
+        },
+        number: 13,
+        changed: BY_TRACE,
+    };
+    let each = |call: ByteCall| {
+        let length = call.input.len();
+        let others = [
+            0,
+            length.saturating_sub(1),
+            length + 1,
+            2 * length,
+            256 + length,
+        ];
+        let others = others.into_iter().filter(move |&it| it != length);
+        others.map(move |output| with(&call, output))
+    };
+    let outputs = good(part).into_iter().flat_map(each);
+    let results = accepted(part, &RESULTS, |call, &length| call.result = length);
+    outputs.chain(results).collect()
+}
+
+/// Levels of WP#: 0 is low and any other number is high, also one whose low byte is 0.
+fn levels(part: &Part) -> Vec<Bad> {
+    let levels = [0, 1, 2, 256, 1 << 31, u32::MAX];
+    accepted(part, &levels, |call, &wp| call.wp = wp)
+}
+
+/// Good calls, changed in ways that nothing depends on.
+fn accepted<T>(part: &Part, ways: &[T], change: impl Fn(&mut ByteCall, &T)) -> Vec<Bad> {
+    let mut all = each_way(part, ways, 0, BY_TRACE, change);
+    for bad in &mut all {
+        if bad.call.input.first() == Some(&2) {
+            bad.changed += BY_SELECTION;
+        }
+    }
+    all
+}
