@@ -20,10 +20,12 @@ pub struct ByteCase {
 
 /// A case of one part. Mostly the trace is accepted whole and leaves a part that can be selected.
 pub fn byte_case(rng: &mut Rng, part: u32) -> ByteCase {
-    let knobs = Knobs {
-        blocks: 3,
-        ..Knobs::draw(rng, part)
-    };
+    let mut knobs = Knobs::draw(rng, part);
+    knobs.blocks = 3;
+    // Half of the makings leave at least three quarters of the memory to write to.
+    if rng.chance(500) {
+        knobs.bits &= 5;
+    }
     let input = selection_bytes(rng, part);
     let trace = trace_before(rng, part, &knobs, &input);
     let length = if rng.chance(950) {
@@ -146,7 +148,7 @@ fn trace_before(rng: &mut Rng, part: u32, knobs: &Knobs, input: &[u8]) -> Vec<u8
         commands(rng, known)
     };
     // What writes mostly has its enable.
-    if matches!(input.first(), Some(1 | 2)) && rng.chance(750) {
+    if matches!(input.first(), Some(1 | 2)) && rng.chance(850) {
         out.extend(spelled(true, &[6]));
     }
     match rng.below(100) {
