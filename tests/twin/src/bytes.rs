@@ -71,7 +71,7 @@ impl Spi {
         let op = code.and_then(|&code| self.part.op(code));
         let selected = self.show(op, input, output, memory);
         self.take(op, wp, input, memory);
-        self.rest(last_sample(wp, input));
+        self.old = last_sample(wp, input);
         selected
     }
 

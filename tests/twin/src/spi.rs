@@ -26,9 +26,10 @@ struct Selection {
 }
 
 impl Selection {
-    fn begin(ignoring: bool) -> Selection {
+    /// None begun.
+    fn resting() -> Selection {
         Selection {
-            ignoring,
+            ignoring: true,
             rises: 0,
             byte: 0,
             op: None,
@@ -48,8 +49,8 @@ pub struct Spi {
     pub(crate) bits: u8,
     pub(crate) wel: bool,
     pub(crate) asleep: bool,
-    old: u8,
-    /// While CS# is 1, as at power on: one that ignores the bus.
+    pub(crate) old: u8,
+    /// While CS# is 1, as at power on: one without a rise that ignores the bus.
     selection: Selection,
 }
 
@@ -62,7 +63,7 @@ impl Spi {
             wel: false,
             asleep: false,
             old: sample,
-            selection: Selection::begin(true),
+            selection: Selection::resting(),
         }
     }
 
@@ -73,12 +74,6 @@ impl Spi {
     /// CS# was 0 in the last sample.
     pub(crate) fn selected(&self) -> bool {
         self.old & CS == 0
-    }
-
-    /// A selection has ended with this sample, and no trace of it is kept.
-    pub(crate) fn rest(&mut self, sample: u8) {
-        self.old = sample;
-        self.selection = Selection::begin(true);
     }
 
     /// Nothing is driven while the part is held or unselected; a hold leaves the bit shown.
@@ -96,10 +91,10 @@ impl Spi {
         let changed = old ^ new;
         if changed & CS != 0 {
             if new & CS == 0 {
-                self.selection = Selection::begin(self.asleep);
+                self.selection.ignoring = self.asleep;
             } else {
                 self.end_selection(new & WP != 0);
-                self.rest(new);
+                self.selection = Selection::resting();
             }
         } else if changed & SCK != 0 && new & CS == 0 && old & new & HOLD != 0 {
             self.clock_edge(new, memory);
