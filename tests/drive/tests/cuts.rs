@@ -1,9 +1,10 @@
 //! Demand 3 at the proved build's pins: power is cut after every single event of a trace, and
 //! before the first. What memory and saved bits are then is told by the ledger, by selections and
-//! starts; no model of the twin is asked.
+//! starts; no model of the twin is asked. Then lists of selections as bytes, cut after each.
 
 use drive::script::{self, Script};
 use drive::{tally, Making};
+use twin::bytes::spelled;
 use twin::gen::{self, Case, Rng};
 use twin::part::Wires;
 use twin::text::first_memory;
@@ -19,14 +20,10 @@ struct Bench {
 }
 
 impl Bench {
-    fn new(case: &Case) -> Bench {
-        let part = &PARTS[case.part as usize];
+    fn new(making: Making) -> Bench {
+        let part = &PARTS[making.part as usize];
         Bench {
-            making: Making {
-                part: case.part,
-                pins: case.pins,
-                bits: case.bits,
-            },
+            making,
             part,
             first: first_memory(part.size),
             memory: vec![0; part.size],
@@ -42,6 +39,25 @@ impl Bench {
         let answers = Some(&mut self.answers[..]);
         let ran = drive::run(self.making, u64::MAX, trace, &mut self.memory, answers);
         (ran.number, ran.count as usize)
+    }
+
+    /// A selection as bytes after the trace; the memory stays to be looked at.
+    fn select(&mut self, trace: &[u8], wp: bool, input: &[u8]) -> u8 {
+        self.memory.copy_from_slice(&self.first);
+        let (wp, mut output) = (u32::from(wp), vec![0; input.len()]);
+        let selected = drive::select(self.making, trace, wp, input, &mut output, &mut self.memory);
+        selected.number
+    }
+
+    /// The ledger before any event.
+    fn ledger(&self) -> Ledger {
+        let Making { part, pins, bits } = self.making;
+        Ledger::begin(part, pins, bits, &self.first)
+    }
+
+    /// Any address of the part.
+    fn address(&self, rng: &mut Rng) -> usize {
+        rng.below(self.part.size as u64) as usize
     }
 
     /// Cuts after the events of `front` and looks at what the ledger says is left: the whole
@@ -123,23 +139,83 @@ fn read_word(part: &Part, pins: u32, address: usize) -> u8 {
 
 /// Cuts a trace after each of its accepted events; how often the ledger changed.
 fn follow(case: &Case, rng: &mut Rng) -> u64 {
-    let mut bench = Bench::new(case);
+    let mut bench = Bench::new(Making::new(case.part, case.pins, case.bits));
     let (_, count) = bench.run(&case.trace);
     let answers = bench.answers[..count].to_vec();
-    let mut ledger = Ledger::begin(case.part, case.pins, case.bits, &bench.first);
+    let mut ledger = bench.ledger();
     let (mut at, mut powered, mut changes) = (0, false, 0);
     bench.cut(&[], powered, &ledger, 0);
     for (event, answer) in tally::events(&case.trace).zip(answers) {
         let before = ledger.clone();
         ledger.feed(event, answer);
-        let changed = before.memory() != ledger.memory() || before.bits() != ledger.bits();
-        changes += u64::from(changed);
+        changes += changed(&before, &ledger).iter().sum::<u64>();
         powered = event[0] != 3;
         at += event.len();
-        let address = rng.below(bench.part.size as u64) as usize;
+        let address = bench.address(rng);
         bench.cut(&case.trace[..at], powered, &ledger, address);
     }
     changes
+}
+
+/// Whether the memory changed between the two, and whether the bits did.
+fn changed(before: &Ledger, after: &Ledger) -> [u64; 2] {
+    let memory = before.memory() != after.memory();
+    [memory, before.bits() != after.bits()].map(u64::from)
+}
+
+/// A list of selections as bytes on a SPI part. Each call makes a model of its own, so those before
+/// it go in as their pin events. The memory that the call leaves is the ledger's; then the power is
+/// cut after the same selection as pin events, and the ledger tells what is left of memory and bits.
+/// How often either changed.
+fn follow_list(making: Making, rng: &mut Rng) -> [u64; 2] {
+    let mut bench = Bench::new(making);
+    let mut ledger = bench.ledger();
+    let mut trace = Script::spi().into_trace();
+    ledger.feed(&trace, twin::NOTHING);
+    let mut changes = [0, 0];
+    for (wp, input) in list(making.part, rng) {
+        assert_eq!(bench.select(&trace, wp, &input), 0, "{trace:x?} {input:x?}");
+        let by_bytes = bench.memory.clone();
+        let count = tally::events(&trace).count();
+        trace.extend(spelled(wp, &input));
+        bench.run(&trace);
+        let before = ledger.clone();
+        let events = tally::events(&trace).zip(&bench.answers).skip(count);
+        events.for_each(|(event, &answer)| ledger.feed(event, answer));
+        assert!(by_bytes == ledger.memory(), "memory: {trace:x?} {input:x?}");
+        changes = added(changes, changed(&before, &ledger));
+        let address = bench.address(rng);
+        bench.cut(&trace, true, &ledger, address);
+    }
+    changes
+}
+
+fn added(one: [u64; 2], two: [u64; 2]) -> [u64; 2] {
+    [one[0] + two[0], one[1] + two[1]]
+}
+
+/// Some selections, each with its level of WP#; most of them have an enable before them.
+fn list(part: u32, rng: &mut Rng) -> Vec<(bool, Vec<u8>)> {
+    let mut list = Vec::new();
+    for _ in 0..1 + rng.below(12) {
+        if rng.chance(800) {
+            list.push((rng.chance(500), vec![6]));
+        }
+        list.push((rng.chance(500), gen::selection_bytes(rng, part)));
+    }
+    list
+}
+
+/// So many lists of a part, cut after each selection. Many change the memory, and many the bits.
+fn follow_lists(part: u32, lists: u64) {
+    let mut rng = Rng::new(0xb075 + u64::from(part));
+    let mut changes = [0, 0];
+    for _ in 0..lists {
+        let any = rng.below(u64::from(PARTS[part as usize].max_bits) + 1) as u32;
+        let making = Making::new(part, 0, rng.pick(&[0, any]));
+        changes = added(changes, follow_list(making, &mut rng));
+    }
+    assert!(changes.iter().all(|&it| 4 * it > lists), "{changes:?}");
 }
 
 /// So many traces of a part, cut everywhere.
@@ -176,4 +252,19 @@ fn part_3() {
 #[test]
 fn part_4() {
     follow_part(4, 40);
+}
+
+#[test]
+fn lists_of_part_0() {
+    follow_lists(0, 200);
+}
+
+#[test]
+fn lists_of_part_1() {
+    follow_lists(1, 100);
+}
+
+#[test]
+fn lists_of_part_2() {
+    follow_lists(2, 100);
 }

@@ -1,11 +1,13 @@
 //! A long comparison of the proved build with the twin: `soak EVENTS SEED`, or `soak 300s SEED`
 //! for so many seconds. Stops at the first difference and prints its trace.
 
+use drive::byte_call::ByteCall;
 use drive::call::{Agreed, Call};
-use drive::tally::{Tally, HEAD};
+use drive::tally::{ByteTally, Tally, HEAD};
 use std::process::ExitCode;
 use std::time::{Duration, Instant};
 use twin::gen::{self, Case, Knobs, Rng};
+use twin::part::Wires;
 use twin::PARTS;
 
 /// When to stop.
@@ -49,10 +51,12 @@ fn main() -> ExitCode {
     }
 }
 
-/// Each part in turn; each trace whole with its answers, then without them up to a quota.
+/// Each part in turn; each trace whole with its answers, then without them up to a quota. Then, on a
+/// SPI part, a selection as bytes.
 fn soak(until: &Until, seed: u64) -> Result<(), String> {
     let mut rng = Rng::new(seed);
     let mut tallies: [Tally; PARTS.len()] = Default::default();
+    let mut selections = ByteTally::default();
     let begun = Instant::now();
     let mut accepted = 0;
     while !until.reached(accepted, begun) {
@@ -62,9 +66,15 @@ fn soak(until: &Until, seed: u64) -> Result<(), String> {
             let stopped = whole.stopped(rng.below(agreed.ran.count + 2));
             accepted += agreed.ran.count + compared(&stopped)?.ran.count;
             tallies[part.number as usize].add(&whole.trace, &agreed);
+            if part.wires == Wires::Spi {
+                let call = ByteCall::of(gen::byte_case(&mut rng, part.number));
+                let agreed = call.compare();
+                selections.add(&agreed.map_err(|difference| format!("{difference}: {call}"))?);
+            }
         }
     }
     report(&tallies, accepted, begun.elapsed());
+    println!("{selections}");
     Ok(())
 }
 
