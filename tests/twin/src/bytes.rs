@@ -34,18 +34,15 @@ impl Selected {
 pub fn spelled(wp: bool, input: &[u8]) -> Vec<u8> {
     let others = spi_pin::HOLD | if wp { spi_pin::WP } else { 0 };
     let mut out = vec![4, others];
+    let mut low = others;
     for byte in input {
         for place in (0..8).rev() {
-            let low = others
-                | if byte >> place & 1 != 0 {
-                    spi_pin::SI
-                } else {
-                    0
-                };
+            let si = byte >> place & 1;
+            low = others | (si * spi_pin::SI);
             out.extend([4, low | spi_pin::SCK, 4, low]);
         }
     }
-    out.extend([4, last_sample(wp, input)]);
+    out.extend([4, low | spi_pin::CS]);
     out
 }
 
@@ -83,6 +80,7 @@ impl Spi {
             Some(Op::Fstrd) => 5,
             _ => output.len(),
         };
+        // If the output ends before or with the head, nothing is driven and this is its length.
         let head = head.min(output.len());
         let (undriven, shown) = output.split_at_mut(head);
         undriven.fill(UNDRIVEN);
@@ -101,7 +99,7 @@ impl Spi {
         };
         Selected {
             number: 0,
-            first: if count == 0 { output.len() } else { head } as u64,
+            first: head as u64,
             count: count as u64,
         }
     }

@@ -3,6 +3,7 @@
 mod common;
 
 use common::Bus;
+use twin::bytes::spelled;
 use twin::text::first_byte;
 
 /// A selection that must be accepted, with WP# high: first, count and the bytes.
@@ -119,6 +120,27 @@ fn the_selection_after_sleep_is_deaf() {
         assert_eq!(select(&mut bus, wakes), nothing);
         assert_eq!(select(&mut bus, &[5, 0]), (1, 1, vec![0xff, 2]));
     }
+}
+
+/// The samples by their numbers: CS# 1, SCK 2, SI 4, WP# 8, HOLD# 16.
+#[test]
+fn how_selections_are_spelled() {
+    let samples = |wp, input: &[u8]| -> Vec<u8> {
+        let trace = spelled(wp, input);
+        assert!(trace.chunks(2).all(|event| event[0] == 4));
+        trace.chunks(2).map(|event| event[1]).collect()
+    };
+    assert_eq!(samples(true, &[]), [24, 25]);
+    assert_eq!(samples(false, &[]), [16, 17]);
+    let ones = [22, 20];
+    let zeros = [18, 16];
+    let five = [zeros, zeros, zeros, zeros, zeros, ones, zeros, ones].concat();
+    let two = [zeros, zeros, zeros, zeros, zeros, zeros, ones, zeros].concat();
+    assert_eq!(samples(false, &[5]), [&[16], &five[..], &[21]].concat());
+    let both = [&[16], &five[..], &two[..], &[17]].concat();
+    assert_eq!(samples(false, &[5, 2]), both);
+    let high: Vec<u8> = both.iter().map(|sample| sample + 8).collect();
+    assert_eq!(samples(true, &[5, 2]), high);
 }
 
 /// The samples of pins after a selection go on from its last one: SI kept, SCK low, CS# 1.
