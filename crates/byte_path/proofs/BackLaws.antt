@@ -53,6 +53,21 @@ pub all-quiet-bytes : (n : ℕ) → bytesOf (replicate n undriven) ≡ replicate
 all-quiet-bytes zero = refl
 all-quiet-bytes (suc n) = ap (λ (l : List ℕ). 255 ∷ l) (all-quiet-bytes n)
 
+-- n of k bytes first
+split : (n k : ℕ) → n ≤ k → replicate {A = ℕ} k 255 ≡ replicate n 255 ++ replicate (k - n) 255
+split zero k h = let all : k - 0 ≡ k = omega arith in rw all
+split (suc n) zero h = absurd (omega arith)
+split (suc n) (suc k) h = ap (λ (l : List ℕ). 255 ∷ l) (split n k (omega arith) ∙ rw (sub-suc k n))
+  where
+    sub-suc : (a b : ℕ) → suc a - suc b ≡ a - b
+    sub-suc a b = omega arith
+
+-- a buffer filled whole: its head as it was, and after it bytes that are not driven
+pub quiet-over : (out new : List ℕ) (n r : ℕ) → n ≤ length out → take n out ≡ replicate n 255 → new ≡ replicate (length out) 255 → r ≡ 0
+    → (new ≡ take n out ++ bytesOf (replicate (length out - n) undriven)) × (r ≡ drivenCount (replicate (length out - n) undriven))
+quiet-over out new n r h e q z =
+    (q ∙ split n (length out) h ∙ rw (e, all-quiet-bytes (length out - n)), z ∙ sym (all-quiet (length out - n) .count))
+
 module _ (p : Part) (st : Status) (m : List ℕ) where
   pub memory-bytes : length m ≡ p .size → (n a : ℕ) → bytesOf (shownFrom p st m (Memory a) n) ≡ rolledFrom m a n
   memory-bytes l zero a = refl

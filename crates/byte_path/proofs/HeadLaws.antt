@@ -8,7 +8,7 @@ use native.Mathlib.Nat.{pow-le-pow-right, zero-add, add-zero}
 use native.Mathlib.Numerals.{add-one}
 use native.Mathlib.Omega.{arith}
 use lib.Dec.{ltb}
-use lib.ListN.{length, getD, drop}
+use lib.ListN.{length, getD, set, drop, replicate}
 use lib.Seq.{drop-cons, drop-nil}
 use borrow.Author.Tests.{ltb-true}
 use Rattle.parts.specs.declared.part.Part.{Part}
@@ -120,3 +120,11 @@ module _ (p : Part) (input : List ℕ) where
       drop-past [] n l = drop-nil n
       drop-past (v ∷ vs) zero l = absurd (omega arith)
       drop-past (v ∷ vs) (suc n) l = drop-past vs n (omega arith)
+
+-- ---- what the head brings back
+
+-- one byte more
+pub quiet-on : (out : List ℕ) (at : ℕ) → at < length out → set (replicate at 255 ++ drop at out) at 255 ≡ replicate (suc at) 255 ++ drop (suc at) out
+quiet-on [] at h = absurd (omega arith)
+quiet-on (x ∷ out) zero h = refl
+quiet-on (x ∷ out) (suc at) h = ap (λ (l : List ℕ). 255 ∷ l) (quiet-on out at (omega arith))

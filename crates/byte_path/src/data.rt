@@ -6,7 +6,6 @@ ghost use Prim.Native.Nat.{_-_, _+_, _<_, _≤_, min};
 ghost use lib.Dec.{ltb};
 ghost use lib.ListN.{length, take, drop, getD, replicate};
 ghost use Rattle.byte_path.specs.PinPath.{bytesOf, firstDriven, drivenCount};
-ghost use Rattle.byte_path.specs.ByBytes.{undriven};
 ghost use Rattle.byte_path.specs.Rest.{shownFrom, restBack, identityFrom, fieldMemory, restMemory, fieldEnd, phaseEnd};
 ghost use Rattle.parts.specs.Status.{protectedStart};
 ghost use Rattle.rolled_write.specs.Written.{writtenFrom};
@@ -86,17 +85,16 @@ fn show_source(
     }
 }
 
-// Nothing driven up to the end.
-fn quiet(output: &mut [u8], from: usize) -> usize
-    requires { ⌜ from ≤ length (now output) ⌝ }
-    ensures output { λ r. ⌜ now (output .exit) ≡ take from (now (output .entry)) ++ bytesOf (replicate (length (now (output .entry)) - from) undriven) ⌝ }
-    ensures count { λ r. ⌜ r ≡ drivenCount (replicate (length (now (output .entry)) - from) undriven) ⌝ }
+// Nothing driven in the whole selection, its head included. One filling of the whole buffer is quicker than one from the head on.
+fn quiet(output: &mut [u8]) -> usize
+    ensures output { λ r. ⌜ now (output .exit) ≡ replicate (length (now (output .entry))) 255 ⌝ }
+    ensures count { λ r. ⌜ r ≡ 0 ⌝ }
 {
-    rolled_read::fill::fill(output, from, 255);
+    rolled_read::fill::fill(output, 0, 255);
     0
 }
 
-// What a selection brings back after its head; how many bytes are driven.
+// What a selection brings back after its head, which brought 255; how many bytes are driven.
 pub fn show(
     part: Part,
     status: Status,
@@ -105,18 +103,18 @@ pub fn show(
     output: &mut [u8],
     from: usize,
 ) -> usize
-    requires { ⌜ PhaseIn part phase × (length (now memory) ≡ part .size) × (from ≤ length (now output)) ⌝ }
+    requires { ⌜ PhaseIn part phase × (length (now memory) ≡ part .size) × (from ≤ length (now output)) × (take from (now output) ≡ replicate from 255) ⌝ }
     ensures output { λ r. ⌜ now (output .exit) ≡ take from (now (output .entry)) ++ bytesOf (restBack part status (now (memory .entry)) phase (length (now (output .entry)) - from)) ⌝ }
     ensures count { λ r. ⌜ r ≡ drivenCount (restBack part status (now (memory .entry)) phase (length (now (output .entry)) - from)) ⌝ }
 {
     match phase {
-        Phase::Rest => quiet(output, from),
-        Phase::Ignoring => quiet(output, from),
+        Phase::Rest => quiet(output),
+        Phase::Ignoring => quiet(output),
         Phase::Taking {
             field: _,
             count: _,
             value: _,
-        } => quiet(output, from),
+        } => quiet(output),
         Phase::Showing { source, bit: _ } => show_source(
             part,
             status,
@@ -125,7 +123,7 @@ pub fn show(
             output,
             from,
         ),
-        Phase::Waiting { action: _ } => quiet(output, from),
+        Phase::Waiting { action: _ } => quiet(output),
     }
 }
 

@@ -1,7 +1,9 @@
 // The bytes of a selection before its data: opcode, address, the dummy byte of FSTRD, the data byte of WRSR.
 ghost use mathlib.Core.Path.{_≡_};
 ghost use mathlib.Core.Bool.{true};
-ghost use Prim.Native.Nat.{_<_, _^_};
+ghost use mathlib.Core.List.{_++_};
+ghost use Prim.Native.Nat.{_<_, _≤_, _^_};
+ghost use lib.ListN.{length, drop, replicate};
 ghost use Rattle.parts.specs.Table.{Fit};
 ghost use Rattle.selection.specs.declared.phase.Phase.the-variants as Phase;
 ghost use Rattle.selection.specs.Phase.{width, phaseAfterField};
@@ -119,14 +121,17 @@ fn after_byte(part: Part, phase: Phase, byte: u8) -> Phase
     }
 }
 
-pub fn head_of(part: Part, first: Phase, input: &[u8]) -> Head
-    requires { ⌜ Bordered part first ⌝ }
-    ensures { λ r. ⌜ r ≡ headFrom part first (now (input .entry)) ⌝ }
+// The head brings nothing back: its bytes are 255.
+pub fn head_of(part: Part, first: Phase, input: &[u8], output: &mut [u8]) -> Head
+    requires { ⌜ Bordered part first × (length (now input) ≤ length (now output)) ⌝ }
+    ensures head { λ r. ⌜ r ≡ headFrom part first (now (input .entry)) ⌝ }
+    ensures output { λ r. ⌜ now (output .exit) ≡ replicate (headFrom part first (now (input .entry)) .at) 255 ++ drop (headFrom part first (now (input .entry)) .at) (now (output .entry)) ⌝ }
 {
     let mut phase = first;
     let mut at: usize = 0;
     while at < input.len() && is_head(phase) {
         phase = after_byte(part, phase, input[at]);
+        output[at] = 255;
         at += 1;
     }
     Head { phase, at }

@@ -2,9 +2,7 @@
 ghost use mathlib.Core.Path.{_≡_};
 ghost use mathlib.Core.Bool.{true, false, cond};
 ghost use lib.Dec.{eqb};
-ghost use mathlib.Core.List.{_++_};
-ghost use Prim.Native.Nat.{_≤_};
-ghost use lib.ListN.{length, drop, replicate};
+ghost use lib.ListN.{length};
 ghost use Rattle.parts.specs.declared.answer.Answer.the-variants as Answer;
 ghost use Rattle.selection.specs.declared.phase.Phase.the-variants as Phase;
 ghost use Rattle.spi_status.specs.Deselect.{statusAfter, asleepAfter};
@@ -59,14 +57,6 @@ fn risen(model: Model, wp: bool, asleep: bool, phase: Phase, si: bool) -> Model
     chip::model::with_bus(model, status, BusState::SpiOn { spi })
 }
 
-// The head brings nothing back: its bytes are 255.
-fn quiet_head(output: &mut [u8], count: usize)
-    requires { ⌜ count ≤ length (now output) ⌝ }
-    ensures { λ r. ⌜ now (output .exit) ≡ replicate count 255 ++ drop count (now (output .entry)) ⌝ }
-{
-    rolled_read::fill::fill(&mut output[..count], 0, 255);
-}
-
 fn first_of(count: usize, at: usize, whole: usize) -> usize
     ensures { λ r. ⌜ r ≡ cond (eqb count 0) whole at ⌝ }
 {
@@ -92,11 +82,10 @@ pub fn select_bytes(
     let part = parts::part::part_of(model.part as usize);
     let status = model.status;
     let asleep = spi.asleep;
-    let head = crate::head::head_of(part, spi::sample::select(asleep), input);
+    let head = crate::head::head_of(part, spi::sample::select(asleep), input, output);
     let phase = head.phase;
     let at = head.at;
     let whole = input.len();
-    quiet_head(output, at);
     let count = crate::data::show(part, status, phase, memory, output, at);
     crate::data::store(part, status, phase, input, at, memory);
     let end = crate::data::end_phase(phase, at < whole);

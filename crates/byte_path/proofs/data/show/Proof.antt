@@ -1,5 +1,6 @@
 -- `show` meets its contract, phase by phase. Assumes nothing.
 use borrow.Author.Needs.{needs}
+use Rattle.byte_path.proofs.BackLaws.{quiet-over}
 use Rattle.byte_path.proofs.data.show.Statement.{statement}
 use Rattle.byte_path.proofs.data.show.Tie as tie
 
@@ -37,19 +38,28 @@ same-length : tie.Need-same-length
 same-length c = search needs
 
 returns : tie.Need-returns
-returns c = rw (c .before .before .before .before .enum-told .given .1) (c .before .before .quiet .ensures)
+returns c =
+    let start = c .before .before .before .before .before .before .before .before in
+    let q = c .before .before .quiet .ensures in
+    rw (c .before .before .before .before .enum-told .given .1) (quiet-over (start .args .output .now) _ (start .args .from) _ (start .pre .2) (start .pre .3) (q .0) (q .1))
 
 same-length-2 : tie.Need-same-length-2
 same-length-2 c = search needs
 
 returns-2 : tie.Need-returns-2
-returns-2 c = rw (c .before .before .before .before .enum-told2 .given .1) (c .before .before .quiet2 .ensures)
+returns-2 c =
+    let start = c .before .before .before .before .before .before .before .before in
+    let q = c .before .before .quiet2 .ensures in
+    rw (c .before .before .before .before .enum-told2 .given .1) (quiet-over (start .args .output .now) _ (start .args .from) _ (start .pre .2) (start .pre .3) (q .0) (q .1))
 
 same-length-3 : tie.Need-same-length-3
 same-length-3 c = search needs
 
 returns-3 : tie.Need-returns-3
-returns-3 c = rw (c .before .before .before .before .enum-told3 .given .1) (c .before .before .quiet3 .ensures)
+returns-3 c =
+    let start = c .before .before .before .before .before .before .before .before in
+    let q = c .before .before .quiet3 .ensures in
+    rw (c .before .before .before .before .enum-told3 .given .1) (quiet-over (start .args .output .now) _ (start .args .from) _ (start .pre .2) (start .pre .3) (q .0) (q .1))
 
 same-length-4 : tie.Need-same-length-4
 same-length-4 c = search needs
@@ -61,7 +71,10 @@ same-length-5 : tie.Need-same-length-5
 same-length-5 c = search needs
 
 returns-5 : tie.Need-returns-5
-returns-5 c = rw (c .before .before .before .before .enum-told4 .given .1) (c .before .before .quiet4 .ensures)
+returns-5 c =
+    let start = c .before .before .before .before .before .before .before .before in
+    let q = c .before .before .quiet4 .ensures in
+    rw (c .before .before .before .before .enum-told4 .given .1) (quiet-over (start .args .output .now) _ (start .args .from) _ (start .pre .2) (start .pre .3) (q .0) (q .1))
 
 pub show-spec : {M : Type 1} → statement M
 show-spec =

@@ -19,38 +19,35 @@ part-of-requires c κs = let start = c .before .before .before .before in sound-
 
 head-of-requires : tie.Need-head-of-requires
 head-of-requires c κs =
-    let start = c .before .before .before .before .before .before .before in
-    let a = start .args in
-    rw (c .before .before .part-of .ensures, c .select .ensures)
-    (first-bordered (a .model) (a .spi) (a .memory .now) (a .input .now) (a .wp) (start .pre .0) (start .pre .2))
-
-quiet-head-requires : tie.Need-quiet-head-requires
-quiet-head-requires c κs =
-    let known = c .before .before .before .before .before .before .before .before in
-    let start = known .before in
-    let a = start .args in
-    let b = begun (a .model) (a .spi) (a .memory .now) (a .input .now) (a .wp) (start .pre .0) (start .pre .2) (λ i. known .shared-slice-known .given i .fits) in
-    rw (c .before .head-of .ensures, c .before .before .select .ensures, c .before .before .before .before .part-of .ensures) (omega (arith, b .within, start .pre .3))
+    let start = c .before .before .before .before .before .before .before .before in
+    let a = start .args in (
+      rw (c .before .before .before .part-of .ensures, c .before .select .ensures)
+      (first-bordered (a .model) (a .spi) (a .memory .now) (a .input .now) (a .wp) (start .pre .0) (start .pre .2)),
+      omega (arith, start .pre .3),
+    )
 
 show-requires : tie.Need-show-requires
 show-requires c κs =
-    let known = c .before .before .before .before .before .before .before .before .before .before .before .before .before in
+    let known = c .before .before .before .before .before .before .before .before .before .before .before .before in
     let start = known .before in
     let a = start .args in
     let b = begun (a .model) (a .spi) (a .memory .now) (a .input .now) (a .wp) (start .pre .0) (start .pre .2) (λ i. known .shared-slice-known .given i .fits) in
-    rw (c .before .before .before .before .quiet-head .ensures, c .before .before .before .before .before .before .head-of .ensures, c .before .before .before .before .before .before .before .select .ensures, c .before .before .before .before .before .before .before .before .before .part-of .ensures) (
+    let n = headFrom (partOf (a .model .part)) (selected (a .spi .asleep)) (a .input .now) .at in
+    let fit : n ≤ length (a .output .now) = omega (arith, b .within, start .pre .3) in
+    rw (c .before .before .before .before .head-of .ensures .1, c .before .before .before .before .head-of .ensures .0, c .before .before .before .before .before .before .select .ensures, c .before .before .before .before .before .before .before .before .part-of .ensures) (
       b .inside,
       sound-in (a .model) (a .memory .now) (start .pre .2) .sized,
-      omega (arith, b .within, start .pre .3, filled-length (a .output .now) (headFrom (partOf (a .model .part)) (selected (a .spi .asleep)) (a .input .now) .at) (omega (arith, b .within, start .pre .3))),
+      omega (arith, fit, filled-length (a .output .now) n fit),
+      filled-take (a .output .now) n fit,
     )
 
 store-requires : tie.Need-store-requires
 store-requires c κs =
-    let known = c .before .before .before .before .before .before .before .before .before .before .before .before .before .before .before .before .before in
+    let known = c .before .before .before .before .before .before .before .before .before .before .before .before .before .before .before .before in
     let start = known .before in
     let a = start .args in
     let b = begun (a .model) (a .spi) (a .memory .now) (a .input .now) (a .wp) (start .pre .0) (start .pre .2) (λ i. known .shared-slice-known .given i .fits) in
-    rw (c .before .before .before .before .before .before .before .before .before .before .head-of .ensures, c .before .before .before .before .before .before .before .before .before .before .before .select .ensures, c .before .before .before .before .before .before .before .before .before .before .before .before .before .part-of .ensures) (
+    rw (c .before .before .before .before .before .before .before .before .head-of .ensures .0, c .before .before .before .before .before .before .before .before .before .before .select .ensures, c .before .before .before .before .before .before .before .before .before .before .before .before .part-of .ensures) (
       b .inside,
       sound-in (a .model) (a .memory .now) (start .pre .2) .sized,
       b .within,
@@ -58,27 +55,26 @@ store-requires c κs =
 
 returns : tie.Need-returns
 returns c =
-    let known = c .before .before .before .before .before .before .before .before .before .before .before .before .before .before .before .before .before .before .before .before .before .before .before .before in
+    let known = c .before .before .before .before .before .before .before .before .before .before .before .before .before .before .before .before .before .before .before .before .before .before .before in
     let start = known .before in
     let a = start .args in
     let b = begun (a .model) (a .spi) (a .memory .now) (a .input .now) (a .wp) (start .pre .0) (start .pre .2) (λ i. known .shared-slice-known .given i .fits) in
-    let t = taken (a .model) (a .spi) (a .memory .now) (a .input .now) (a .wp) (start .pre .0) (start .pre .2) (start .pre .1) (λ i. c .before .before .before .before .before .before .before .before .before .before .before .before .before .before .before .before .before .before .before .before .before .before .slice-known2 .given i .fits) (λ i. known .shared-slice-known .given i .fits) in
+    let t = taken (a .model) (a .spi) (a .memory .now) (a .input .now) (a .wp) (start .pre .0) (start .pre .2) (start .pre .1) (λ i. c .before .before .before .before .before .before .before .before .before .before .before .before .before .before .before .before .before .before .before .before .before .slice-known2 .given i .fits) (λ i. known .shared-slice-known .given i .fits) in
     let n = headFrom (partOf (a .model .part)) (selected (a .spi .asleep)) (a .input .now) .at in
     let fit : n ≤ length (a .output .now) = omega (arith, b .within, start .pre .3) in
     let long : length (replicate n 255 ++ drop n (a .output .now)) - n ≡ length (a .input .now) - n = ap (λ (k : ℕ). k - n) (filled-length (a .output .now) n fit ∙ start .pre .3) in
-    let head = c .before .before .before .before .before .before .before .before .before .before .before .before .before .before .before .before .before .head-of .ensures in
-    let first = c .before .before .before .before .before .before .before .before .before .before .before .before .before .before .before .before .before .before .select .ensures in
-    let row = c .before .before .before .before .before .before .before .before .before .before .before .before .before .before .before .before .before .before .before .before .part-of .ensures in
-    let quiet = c .before .before .before .before .before .before .before .before .before .before .before .before .before .before .before .quiet-head .ensures in
+    let head = c .before .before .before .before .before .before .before .before .before .before .before .before .before .before .before .head-of .ensures in
+    let first = c .before .before .before .before .before .before .before .before .before .before .before .before .before .before .before .before .before .select .ensures in
+    let row = c .before .before .before .before .before .before .before .before .before .before .before .before .before .before .before .before .before .before .before .part-of .ensures in
     let show = c .before .before .before .before .before .before .before .before .before .before .show .ensures in (
-      rw (c .before .risen .ensures, c .before .before .last-si .ensures, c .before .before .before .end-phase .ensures, head, first, row) (t .model),
+      rw (c .before .risen .ensures, c .before .before .last-si .ensures, c .before .before .before .end-phase .ensures, head .0, first, row) (t .model),
       (
-        rw (c .before .before .before .before .before .before .store .ensures, head, first, row) (t .memory),
+        rw (c .before .before .before .before .before .before .store .ensures, head .0, first, row) (t .memory),
         (
-          rw (show .0, quiet, head, first, row, filled-take (a .output .now) n fit, long) (t .output),
+          rw (show .0, head .1, head .0, first, row, filled-take (a .output .now) n fit, long) (t .output),
           (
-            rw (c .first-of .ensures, show .1, quiet, head, first, row, long) (t .first),
-            rw (show .1, quiet, head, first, row, long) (t .count),
+            rw (c .first-of .ensures, show .1, head .1, head .0, first, row, long) (t .first),
+            rw (show .1, head .1, head .0, first, row, long) (t .count),
           ),
         ),
       ),
@@ -92,7 +88,6 @@ select-bytes-spec =
     part-of-requires
     (λ c κs. search needs)
     head-of-requires
-    quiet-head-requires
     show-requires
     store-requires
     (λ c κs. search needs)
