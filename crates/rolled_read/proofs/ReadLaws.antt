@@ -4,7 +4,7 @@ use mathlib.Core.Path.{_≡_, sym, ap, _∙_}
 use mathlib.Core.List.{List, _++_, append-assoc, append-nil}
 use native.Mathlib.Omega.{arith}
 use lib.ListN.{length, take, drop, length-take, length-drop}
-use lib.Seq.{length-take-le, take-append-add, take-at, take-all, take-length}
+use lib.Seq.{length-take-le, take-append-add, take-at, take-all}
 use Rattle.rolled_read.specs.Rolled.{rolledFrom}
 use Rattle.rolled_read.proofs.RolledLaws.{rolled-stretch}
 
@@ -27,11 +27,11 @@ module _ (m out : List ℕ) (a at n size : ℕ) (h : a < length m) (k : at ≤ l
 
   -- the same as a copy leaves it: all of the part, then what was there before
   pub read-on : (copied old rest : List ℕ)
-      → copied ≡ take (length (take (a + n - a) (drop a m))) (take (a + n - a) (drop a m)) ++ drop (length (take (a + n - a) (drop a m))) old
+      → copied ≡ take (a + n - a) (drop a m) ++ drop (length (take (a + n - a) (drop a m))) old
       → take (at + n) (take at out ++ (copied ++ rest)) ++ rolledFrom m 0 (size - (at + n)) ≡ take at out ++ rolledFrom m a (size - at)
   read-on copied old rest q =
       let count : a + n - a ≡ n = omega arith in
-      rw (q, count, take-length, append-assoc) (part-on (drop (length (take n (drop a m))) old ++ rest))
+      rw (q, count, append-assoc) (part-on (drop (length (take n (drop a m))) old ++ rest))
 
 -- nothing is left to read
 pub read-over : (m out : List ℕ) (a at size : ℕ) → length out ≤ at → size ≤ at → take at out ++ rolledFrom m a (size - at) ≡ out

@@ -23,7 +23,7 @@ pub fn read_rolled(memory: &[u8], address: usize, output: &mut [u8], from: usize
     while at < output.len() {
         let count = stretch(output.len() - at, memory.len() - start);
         let end = start + count;
-        bytes::copy(&memory[start..end], &mut output[at..]);
+        block_copy::copy(&memory[start..end], &mut output[at..]);
         at += count;
         start = 0;
     }

@@ -119,13 +119,12 @@ module _ (start : ℕ) (m : List ℕ) (a : ℕ) (input : List ℕ) (at n k : ℕ
 
   -- k bytes of the input to the front of what lies from address a on, and that put back into the memory
   pub stretch-copied : (ys : List ℕ)
-      → ys ≡ take (length (take (at + k - at) (drop at input))) (take (at + k - at) (drop at input)) ++ drop (length (take (at + k - at) (drop at input))) (take (length m - a) (drop a m))
+      → ys ≡ take (at + k - at) (drop at input) ++ drop (length (take (at + k - at) (drop at input))) (take (length m - a) (drop a m))
       → take a m ++ (ys ++ drop (length m - a) (drop a m)) ≡ writtenFrom start m a (take n (drop at input))
   stretch-copied ys e =
       let count : at + k - at ≡ k = omega arith in
       let long-below : length (take k (drop at input)) ≡ k = length-take-le k (drop at input) (simp length-drop (omega arith)) in
-      let all-of-part : take k (take k (drop at input)) ≡ take k (drop at input) = take-all k (take k (drop at input)) (omega arith) in
       let all-of-rest : take (length m - a) (drop a m) ≡ drop a m = take-all (length m - a) (drop a m) (simp length-drop (omega arith)) in
       let no-rest : drop (length m - a) (drop a m) ≡ [] = drop-of-length-le (drop a m) {i = length m - a} (simp length-drop (omega arith)) in
-      let front : ys ≡ take k (drop at input) ++ drop (a + k) m = simp (count, long-below, all-of-rest, all-of-part, drop-drop) at e in
+      let front : ys ≡ take k (drop at input) ++ drop (a + k) m = simp (count, long-below, all-of-rest, drop-drop) at e in
       rw (stretch-pasted, no-rest, front, append-nil, append-assoc)

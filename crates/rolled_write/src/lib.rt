@@ -34,7 +34,7 @@ fn write_stretch(
     ensures { λ r. ⌜ now (memory .exit) ≡ writtenFrom start (now (memory .entry)) address (take count (drop at (now (input .entry)))) ⌝ }
 {
     let stored = unprotected(address, start, count);
-    bytes::copy(&input[at..at + stored], &mut memory[address..]);
+    block_copy::copy(&input[at..at + stored], &mut memory[address..]);
 }
 
 // The bytes of input from index `from` on, a stretch up to the top at a time.

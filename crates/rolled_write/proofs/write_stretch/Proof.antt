@@ -15,7 +15,7 @@ returns c =
     (start .pre .0)
     (start .pre .1)
     (c .before .before .copy .last .1 .0)
-    (c .before .before .copy .ensures .1)
+    (c .before .before .copy .ensures)
 
 pub write-stretch-spec : {M : Type 1} → statement M
 write-stretch-spec =

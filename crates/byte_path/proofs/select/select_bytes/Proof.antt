@@ -22,7 +22,7 @@ head-of-requires c κs =
     let start = c .before .before .before .before .before .before .before .before in
     let a = start .args in (
       rw (c .before .before .before .part-of .ensures, c .before .select .ensures)
-      (first-bordered (a .model) (a .spi) (a .memory .now) (a .input .now) (a .wp) (start .pre .0) (start .pre .2)),
+          (first-bordered (a .model) (a .spi) (a .memory .now) (a .input .now) (a .wp) (start .pre .0) (start .pre .2)),
       omega (arith, start .pre .3),
     )
 

@@ -30,7 +30,7 @@ loop-again c =
       search needs,
       search needs,
       c .before .output .given .1 ∙ l .inv .2,
-      read-on (args .memory .now) (l .output) (l .start) (l .at) count (length (args .output .now)) (l .inv .0) (search needs) (search needs) (copy .last .1 .0) _ _ (copy .ensures .1)
+      read-on (args .memory .now) (l .output) (l .start) (l .at) count (length (args .output .now)) (l .inv .0) (search needs) (search needs) (copy .last .1 .0) _ _ (copy .ensures)
           ∙ l .inv .3,
     )
 
