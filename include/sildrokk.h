@@ -22,19 +22,22 @@
  *   and HOLD# on SPI; SCL, SDA without the part's own pull, and WP on I2C. The other bits are 0.
  *   Answers: 0 low, 1 high, 2 nothing driven.
  *
- * Both functions return 0, or the first of these numbers that holds:
+ * Each function returns 0, or the first of these numbers that holds:
  *
- *   1  no such part, or pins or saved bits that it cannot have
- *   3  memory_length is more or less than the part has
- *   4  no such kind, or the power on of the other bus
- *   5  the event's bytes are not all there
- *   6  a sample or expected answer too large, or a start address not below the part's size
- *   7  anything but a power on, without power
- *   8  a power on, under power
- *   9  the part answers something else than expected
+ *   1   no such part, or pins or saved bits that it cannot have
+ *   3   memory_length is more or less than the part has
+ *   4   no such kind, or the power on of the other bus; of a selection, that the part is on I2C
+ *   5   the event's bytes are not all there
+ *   6   a sample or expected answer too large, or a start address not below the part's size
+ *   7   anything but a power on, without power
+ *   8   a power on, under power
+ *   9   the part answers something else than expected
+ *   12  a selection without power, or where CS# was not 1 in the last sample
+ *   13  output_length is more or less than input_length
  *
  * 1 and 3 are tested first, whatever the trace and the quota; the memory is then untouched, and
- * count and offset are 0. With 4 to 9 the events before the refused one stand.
+ * both numbers of the result are 0. With 4 to 9 of an event the events before it stand. The 4 of a
+ * selection, 12 and 13 are tested after the whole trace, in this order, and all of it stands.
  *
  * The host's duties, which nothing here can test: each pointer is valid for its length and not
  * null, also where the length is 0; and no two of the lent buffers overlap. The functions keep
@@ -72,6 +75,30 @@ uint8_t sildrokk_replay(uint32_t part, uint32_t pins, uint32_t bits, uint64_t qu
                         const uint8_t *trace, size_t trace_length,
                         uint8_t *memory, size_t memory_length,
                         uint8_t *answers, size_t answers_length,
+                        uint8_t *result, size_t result_length);
+
+/*
+ * Makes a model, runs the whole trace on the lent memory, and if all of it was accepted takes one
+ * selection of an SPI part as bytes: CS# falls, the bytes of `input` go in at SI, high bit first,
+ * and CS# rises. WP# is low throughout if `wp` is 0, and high if it is any other number; HOLD# is
+ * high. No bytes at all is a selection too. What a trace with the same selection as samples does to
+ * the memory, this does.
+ *
+ * output[i] gets what SO showed while input[i] went in: each bit as it was just before the rise of
+ * SCK that took the bit in the same place, and 1 where the part drove nothing.
+ *
+ * A result of exactly 16 bytes gets two numbers as above: the index of the first driven byte and
+ * how many are driven, or input_length and 0 if none is. If the call is refused both are 0, and
+ * output is left as it is.
+ *
+ * The model ends with the call. What a selection leaves behind other than in memory, such as an
+ * enable, is there for the next one if the trace of the next call has this one, as samples.
+ */
+uint8_t sildrokk_select(uint32_t part, uint32_t pins, uint32_t bits,
+                        const uint8_t *trace, size_t trace_length,
+                        uint32_t wp, const uint8_t *input, size_t input_length,
+                        uint8_t *output, size_t output_length,
+                        uint8_t *memory, size_t memory_length,
                         uint8_t *result, size_t result_length);
 
 #ifdef __cplusplus

@@ -1,10 +1,33 @@
-/* include/sildrokk.h as a C host uses it: document 01's first input on part 0, and a refused making. */
+/* include/sildrokk.h as a C host uses it: document 01's first input on part 0, a refused making, and selections as bytes. */
 
 #include "sildrokk.h"
 #include <stdio.h>
 #include <string.h>
 
 static uint8_t memory[4096];
+
+/* RDSR after power on shows 00h, once: byte 1 of two. Then a buffer that is a byte too long. */
+static int selections(void)
+{
+    static const uint8_t power_on[] = {0x01, 0x19};
+    static const uint8_t rdsr[] = {0x05, 0x00};
+    static const uint8_t shown[3] = {0xff, 0x00, 0xa5};
+    static const uint8_t one_from_one[16] = {[7] = 1, [15] = 1};
+    static const uint8_t zeros[16];
+    uint8_t output[3] = {0xa5, 0xa5, 0xa5};
+    uint8_t result[16];
+    int right = 1;
+
+    right &= sildrokk_select(0, 0, 0, power_on, sizeof power_on, 1, rdsr, sizeof rdsr,
+                             output, sizeof rdsr, memory, sizeof memory, result, sizeof result) == 0;
+    right &= memcmp(output, shown, sizeof output) == 0;
+    right &= memcmp(result, one_from_one, sizeof result) == 0;
+    right &= sildrokk_select(0, 0, 0, power_on, sizeof power_on, 1, rdsr, sizeof rdsr,
+                             output, sizeof output, memory, sizeof memory, result, sizeof result) == 13;
+    right &= memcmp(output, shown, sizeof output) == 0;
+    right &= memcmp(result, zeros, sizeof result) == 0;
+    return right;
+}
 
 int main(void)
 {
@@ -23,6 +46,7 @@ int main(void)
     right &= sildrokk_run(256, 0, 0, UINT64_MAX, trace, sizeof trace, memory, sizeof memory,
                           result, sizeof result) == 1;
     right &= memcmp(result, zeros, sizeof result) == 0;
+    right &= selections();
     puts(right ? "header: agrees" : "header: differs");
     return !right;
 }
