@@ -212,7 +212,8 @@ fn lengths(part: &Part) -> Vec<Bad> {
     outputs.chain(results).collect()
 }
 
-/// Levels of WP#: 0 is low and any other number is high, also one whose low byte is 0.
+/// Levels of WP#, of which 256 has a low byte of 0. Which of them are high no call can show, since the
+/// bits that a WRSR sets end with the model; all else is the same for all.
 fn levels(part: &Part) -> Vec<Bad> {
     let levels = [0, 1, 2, 256, 1 << 31, u32::MAX];
     accepted(part, &levels, |call, &wp| call.wp = wp)
