@@ -27,62 +27,54 @@ struct Selection {
     input: Vec<u8>,
     /// The trace before it and its own pin events.
     pins: Vec<u8>,
-    calls: usize,
-    calls_by_pins: usize,
+    length: &'static Length,
 }
 
-/// What a selection may take.
-struct Limits {
+/// What goes for long selections, and what for short ones.
+struct Length {
+    calls: usize,
+    calls_by_pins: usize,
+    /// The most of the pins' time and of the copy's that one may take.
     of_pins: f64,
-    of_twin: f64,
     of_copy: f64,
 }
 
-/// Prints the table; what is above its limit. To the twin's time that is the one given.
+const LONG: Length = Length {
+    calls: 1_000,
+    calls_by_pins: 4,
+    of_pins: 0.01,
+    of_copy: 4.0,
+};
+
+const SHORT: Length = Length {
+    calls: 10_000,
+    calls_by_pins: 5_000,
+    of_pins: 0.5,
+    of_copy: f64::INFINITY,
+};
+
+/// Prints the table; what is above its limit. To the twin's time that is the one given. Each round
+/// has turns of all selections, so that all of them meet the machine as it is through the whole run.
 pub fn table(rounds: usize, limit: f64) -> Vec<String> {
+    let long = (0..3).flat_map(|part| [read(part), write(part)]);
+    let short = (0..3).flat_map(|part| [enable(part), status(part)]);
+    let selections: Vec<Selection> = long.chain(short).collect();
+    let mut benches: Vec<Bench> = selections.iter().map(Bench::new).collect();
+    benches.iter_mut().for_each(Bench::agree);
+    for _ in 0..rounds {
+        benches.iter_mut().for_each(Bench::round);
+    }
     println!("                                 ns a byte                         by bytes over");
     println!(
         "selection    memory  bytes    by bytes  by pins     twin   copy    pins   twin   copy"
     );
-    let long = Limits {
-        of_pins: 0.01,
-        of_twin: limit,
-        of_copy: 4.0,
-    };
-    let short = Limits {
-        of_pins: 0.5,
-        of_twin: limit,
-        of_copy: f64::INFINITY,
-    };
-    let mut high = Vec::new();
-    for selection in (0..3).flat_map(|part| [read(part), write(part)]) {
-        high.extend(long.passed(&selection, measure(&selection, rounds)));
-    }
-    for selection in (0..3).flat_map(|part| [enable(part), status(part)]) {
-        high.extend(short.passed(&selection, measure(&selection, rounds)));
-    }
-    high
-}
-
-impl Limits {
-    /// A line for each ratio, to pins, twin and copy, that is above its limit.
-    fn passed(&self, selection: &Selection, ratios: [f64; 3]) -> Vec<String> {
-        let limits = [self.of_pins, self.of_twin, self.of_copy];
-        let names = ["pins", "the twin", "a copy"];
-        let each = names.iter().zip(ratios).zip(limits);
-        each.filter(|((_, ratio), limit)| ratio > limit)
-            .map(|((name, ratio), limit)| {
-                let part = selection.making.part;
-                let name_of = selection.name;
-                format!("{name_of} on part {part} takes {ratio:.4} of {name}, above {limit}")
-            })
-            .collect()
-    }
+    let above = |bench: &Bench| bench.selection.above(bench.shown(), limit);
+    benches.iter().flat_map(above).collect()
 }
 
 fn read(part: u32) -> Selection {
     let input = [addressed(part, 3, 0), vec![0; BYTES]].concat();
-    Selection::long("READ", part, Script::spi(), input)
+    Selection::new("READ", part, Script::spi(), input)
 }
 
 fn write(part: u32) -> Selection {
@@ -90,20 +82,16 @@ fn write(part: u32) -> Selection {
     let mut script = Script::spi();
     script.command(&[6]);
     let data = (0..BYTES).map(|_| rng.byte()).collect();
-    Selection::long(
-        "WRITE",
-        part,
-        script,
-        [addressed(part, 2, 0), data].concat(),
-    )
+    let input = [addressed(part, 2, 0), data].concat();
+    Selection::new("WRITE", part, script, input)
 }
 
 fn enable(part: u32) -> Selection {
-    Selection::short("WREN", part, vec![6])
+    Selection::new("WREN", part, Script::spi(), vec![6])
 }
 
 fn status(part: u32) -> Selection {
-    Selection::short("RDSR", part, vec![5, 0])
+    Selection::new("RDSR", part, Script::spi(), vec![5, 0])
 }
 
 impl Selection {
@@ -111,35 +99,29 @@ impl Selection {
         PARTS[self.making.part as usize].size
     }
 
-    fn long(name: &'static str, part: u32, before: Script, input: Vec<u8>) -> Selection {
-        Selection::of(name, part, before, input, [1_000, 4])
-    }
-
-    fn short(name: &'static str, part: u32, input: Vec<u8>) -> Selection {
-        Selection::of(name, part, Script::spi(), input, [10_000, 5_000])
-    }
-
-    fn of(
-        name: &'static str,
-        part: u32,
-        before: Script,
-        input: Vec<u8>,
-        [calls, calls_by_pins]: [usize; 2],
-    ) -> Selection {
+    fn new(name: &'static str, part: u32, before: Script, input: Vec<u8>) -> Selection {
         let before = before.into_trace();
         Selection {
             name,
-            making: Making {
-                part,
-                pins: 0,
-                bits: 0,
-            },
+            making: Making::new(part, 0, 0),
             pins: [&before[..], &spelled(true, &input)].concat(),
             before,
+            length: if input.len() > BYTES { &LONG } else { &SHORT },
             input,
-            calls,
-            calls_by_pins,
         }
+    }
+
+    /// A line for each ratio, to pins, twin and copy, that is above its limit.
+    fn above(&self, ratios: [f64; 3], limit: f64) -> Vec<String> {
+        let limits = [self.length.of_pins, limit, self.length.of_copy];
+        let names = ["pins", "the twin", "a copy"];
+        let (name, part) = (self.name, self.making.part);
+        let each = names.iter().zip(ratios).zip(limits);
+        each.filter(|((_, ratio), limit)| ratio > limit)
+            .map(|((of, ratio), limit)| {
+                format!("{name} on part {part} takes {ratio:.4} of {of}, above {limit}")
+            })
+            .collect()
     }
 }
 
@@ -172,7 +154,12 @@ struct Bench<'a> {
     memory: Placed,
     input: Placed,
     output: Placed,
+    /// Those of each turn.
+    times: Vec<Seconds>,
 }
+
+/// Seconds of a selection alone: by bytes, by pins, by the twin, and of a copy.
+type Seconds = [f64; 4];
 
 /// How many things are measured.
 const MEASURES: usize = 6;
@@ -194,6 +181,14 @@ impl<'a> Bench<'a> {
             memory: Placed::new(&first_memory(selection.size()), 0),
             input: Placed::new(&selection.input, 1_024),
             output: Placed::new(&vec![0; selection.input.len()], 2_048),
+            times: Vec::new(),
+        }
+    }
+
+    fn round(&mut self) {
+        for turn in 0..TURNS {
+            let seconds = self.turn(turn);
+            self.times.push(seconds);
         }
     }
 
@@ -206,6 +201,19 @@ impl<'a> Bench<'a> {
         }
         let [bytes, pins, before, twin, before_by_twin, copy] = seconds;
         [bytes - before, pins - before, twin - before_by_twin, copy]
+    }
+
+    /// Prints the medians. The ratios are those of the times of a turn, so that a load that comes
+    /// and goes falls on all.
+    fn shown(&self) -> [f64; 3] {
+        let (length, size) = (self.selection.input.len(), self.selection.size());
+        let nanos = |at: usize| median(&self.times, |it| it[at]) * 1e9 / length as f64;
+        let [bytes, pins, twin, copy] = [0, 1, 2, 3].map(nanos);
+        let ratios = [1, 2, 3].map(|at| median(&self.times, |it| it[0] / it[at]));
+        print!("{:<9} {size:>9} {length:>6}    ", self.selection.name);
+        print!("{bytes:>8.3} {pins:>8.2} {twin:>8.3} {copy:>6.3}  ");
+        println!("{:>6.4} {:>6.2} {:>6.2}", ratios[0], ratios[1], ratios[2]);
+        ratios
     }
 
     /// Both sides give the same, so that the same work is timed.
@@ -251,15 +259,15 @@ impl<'a> Bench<'a> {
     }
 
     fn by_bytes(&mut self) -> f64 {
-        repeated(self.selection.calls, || self.selected().number)
+        repeated(self.selection.length.calls, || self.selected().number)
     }
 
     fn by_pins(&mut self) -> f64 {
-        self.run(&self.selection.pins, self.selection.calls_by_pins)
+        self.run(&self.selection.pins, self.selection.length.calls_by_pins)
     }
 
     fn before(&mut self) -> f64 {
-        self.run(&self.selection.before, self.selection.calls)
+        self.run(&self.selection.before, self.selection.length.calls)
     }
 
     fn run(&mut self, trace: &[u8], calls: usize) -> f64 {
@@ -277,18 +285,18 @@ impl<'a> Bench<'a> {
     }
 
     fn by_twin(&mut self) -> f64 {
-        repeated(self.selection.calls, || self.twin_selected().number)
+        repeated(self.selection.length.calls, || self.twin_selected().number)
     }
 
     fn before_by_twin(&mut self) -> f64 {
-        repeated(self.selection.calls, || {
+        repeated(self.selection.length.calls, || {
             black_box(self.twin());
             0
         })
     }
 
     fn copied(&mut self) -> f64 {
-        repeated(self.selection.calls, || {
+        repeated(self.selection.length.calls, || {
             self.output.bytes().copy_from_slice(self.input.bytes());
             0
         })
@@ -300,33 +308,4 @@ fn repeated(calls: usize, mut call: impl FnMut() -> u8) -> f64 {
     let (numbers, seconds) = timed(|| (0..calls).fold(0, |all, _| all | black_box(call())));
     assert_eq!(numbers, 0, "a call is refused");
     seconds / calls as f64
-}
-
-/// Seconds of a selection alone: by bytes, by pins, by the twin, and of a copy.
-type Seconds = [f64; 4];
-
-fn measure(selection: &Selection, rounds: usize) -> [f64; 3] {
-    let mut bench = Bench::new(selection);
-    bench.agree();
-    let turns = 0..rounds * TURNS;
-    let times: Vec<Seconds> = turns.map(|turn| bench.turn(turn)).collect();
-    shown(selection, &times)
-}
-
-/// Prints the medians. The ratios are those of the times of a turn, so that a load that comes and
-/// goes falls on all.
-fn shown(selection: &Selection, times: &[Seconds]) -> [f64; 3] {
-    let (length, size) = (selection.input.len(), selection.size());
-    let nanos = |at: usize| median(times, |it| it[at]) * 1e9 / length as f64;
-    let ratios = [1, 2, 3].map(|at| median(times, |it| it[0] / it[at]));
-    print!("{:<9} {size:>9} {length:>6}    ", selection.name);
-    print!(
-        "{:>8.3} {:>8.2} {:>8.3} {:>6.3}  ",
-        nanos(0),
-        nanos(1),
-        nanos(2),
-        nanos(3)
-    );
-    println!("{:>6.4} {:>6.2} {:>6.2}", ratios[0], ratios[1], ratios[2]);
-    ratios
 }
