@@ -1,5 +1,4 @@
 pub mod PinPath
 pub mod ByBytes
 pub mod Head
-pub mod Rest
 pub mod Select

@@ -1,4 +1,2 @@
-// One SPI selection as bytes: its head, its data, and all of it.
-pub mod data;
+// One SPI selection as bytes: its definition on the pins, the fold of byte steps that it is, and the code of its head.
 pub mod head;
-pub mod select;

@@ -3,9 +3,10 @@ ghost use mathlib.Core.Path.{_≡_};
 ghost use lib.Seq.{sets};
 ghost use Rattle.runs.specs.Run.{ranOf};
 ghost use Rattle.model.specs.MadeRun.{madeRun};
-ghost use Rattle.model.specs.Selected.{selectedOf, madeSelect};
-use crate::select::Selected;
+ghost use Rattle.model.specs.Selected.{madeSelect};
+ghost use Rattle.selects.specs.Selected.{selectedOf};
 use runs::run::Ran;
+use selects::select::Selected;
 
 // If the making is refused nothing is run: its number and its model come back, with count and offset 0.
 pub fn replay_made(
@@ -50,8 +51,8 @@ pub fn select_made(
     let ran = replay_made(part, pins, bits, trace, trace.len(), memory, &mut answers);
     let start = ran.model;
     if ran.number == 0 {
-        crate::select::select_on_part(start, wp, input, output, memory)
+        selects::select::select_on_part(start, wp, input, output, memory)
     } else {
-        crate::select::refused(ran.number, start)
+        selects::select::refused(ran.number, start)
     }
 }

@@ -1,0 +1,2 @@
+// The bytes of a selection after its head.
+pub mod data;
