@@ -3,8 +3,8 @@ ghost use mathlib.Core.Path.{_≡_};
 ghost use mathlib.Core.Bool.{not};
 ghost use lib.Dec.{eqb};
 ghost use lib.Seq.{sets};
-ghost use Rattle.model.specs.MadeRun.{madeRun};
-ghost use Rattle.model.specs.Selected.{madeSelect};
+ghost use Rattle.made.specs.MadeRun.{madeRun};
+ghost use Rattle.made.specs.MadeSelect.{madeSelect};
 ghost use Rattle.harness.specs.Result.{resultIn};
 
 // Makes a model, runs the trace on the lent memory, and returns the number or 0. A result of exactly 16 bytes gets count and
@@ -26,7 +26,7 @@ pub extern "C" fn sildrokk_replay(
     ensures answers { λ r. ⌜ now (answers .exit) ≡ sets (now (answers .entry)) 0 (madeRun part pins bits quota (now (trace .entry)) (now (memory .entry)) .answers) ⌝ }
     ensures result { λ r. ⌜ now (result .exit) ≡ resultIn (madeRun part pins bits quota (now (trace .entry)) (now (memory .entry)) .count) (madeRun part pins bits quota (now (trace .entry)) (now (memory .entry)) .offset) (now (result .entry)) ⌝ }
 {
-    let ran = model::made::replay_made(part, pins, bits, trace, quota as usize, memory, answers);
+    let ran = made::replay_made(part, pins, bits, trace, quota as usize, memory, answers);
     crate::result::write_result(result, ran.count as u64, ran.offset as u64);
     ran.number
 }
@@ -69,16 +69,7 @@ pub extern "C" fn sildrokk_select(
     ensures output { λ r. ⌜ now (output .exit) ≡ madeSelect part pins bits (now (trace .entry)) (not (eqb wp 0)) (now (input .entry)) (now (output .entry)) (now (memory .entry)) .output ⌝ }
     ensures result { λ r. ⌜ now (result .exit) ≡ resultIn (madeSelect part pins bits (now (trace .entry)) (not (eqb wp 0)) (now (input .entry)) (now (output .entry)) (now (memory .entry)) .first) (madeSelect part pins bits (now (trace .entry)) (not (eqb wp 0)) (now (input .entry)) (now (output .entry)) (now (memory .entry)) .count) (now (result .entry)) ⌝ }
 {
-    let selected = model::made::select_made(
-        part,
-        pins,
-        bits,
-        trace,
-        wp != 0,
-        input,
-        output,
-        memory,
-    );
+    let selected = made::select_made(part, pins, bits, trace, wp != 0, input, output, memory);
     crate::result::write_result(result, selected.first as u64, selected.count as u64);
     selected.number
 }

@@ -1,3 +1,1 @@
 pub mod Make
-pub mod MadeRun
-pub mod Selected

@@ -1,31 +1,9 @@
 // One event, any bytes on any state and memory.
 ghost use mathlib.Core.Path.{_≡_};
-ghost use Rattle.chip.specs.Check.{Sound};
-ghost use Rattle.runs.specs.Event.{checkedEvent, eventOf};
+ghost use Rattle.runs.specs.Event.{eventOf};
 use chip::check::Verdict;
 use chip::model::Model;
 use events::event::Answered;
-use parts::refusal::Refusal;
-
-// Refused with 4 to 9, or taken: a run of one event, which leaves the answer at 2 if it is refused. Without bytes a run is empty, and an
-// event is cut short.
-fn checked_event(model: Model, bytes: &[u8], memory: &mut [u8]) -> Answered
-    requires { ⌜ Sound model (now memory) ⌝ }
-    ensures answered { λ r. ⌜ r ≡ checkedEvent model (now (memory .entry)) (now (bytes .entry)) .result ⌝ }
-    ensures memory { λ r. ⌜ now (memory .exit) ≡ checkedEvent model (now (memory .entry)) (now (bytes .entry)) .memory ⌝ }
-{
-    if bytes.len() == 0 {
-        return events::event::refuse(Refusal::Truncated, model);
-    }
-    let mut answers = [2u8; 1];
-    let ran = runs::run::replay_checked(model, bytes, 1, memory, &mut answers);
-    let next = ran.model;
-    Answered {
-        number: ran.number,
-        answer: answers[0],
-        model: next,
-    }
-}
 
 // The event at the front of bytes: number or 0, answer, next state; the first of 1 to 9 that holds.
 pub fn event(model: Model, bytes: &[u8], memory: &mut [u8]) -> Answered
@@ -33,7 +11,7 @@ pub fn event(model: Model, bytes: &[u8], memory: &mut [u8]) -> Answered
     ensures memory { λ r. ⌜ now (memory .exit) ≡ eventOf model (now (memory .entry)) (now (bytes .entry)) .memory ⌝ }
 {
     match chip::check::check(model, memory.len()) {
-        Verdict::Passed => checked_event(model, bytes, memory),
+        Verdict::Passed => runs::one::checked_event(model, bytes, memory),
         Verdict::Failed { refusal } => events::event::refuse(refusal, model),
     }
 }

@@ -41,91 +41,92 @@ pub struct Part {
     pub starts: [u32; 4],
 }
 
-// Sheet 003.
-pub const MR45V032A: Part = Part {
-    bus: Bus::Spi,
-    size: 4096,
-    width: 16,
-    a16: false,
-    pins: 1,
-    fstrd: false,
-    rdid: false,
-    sleep: false,
-    identity: [0, 0, 0],
-    saved: false,
-    starts: [4096, 0xc00, 0x800, 0],
-};
+// In the order of the part numbers.
+pub const PARTS: [Part; 5] = [
+    // MR45V032A, sheet 003
+    Part {
+        bus: Bus::Spi,
+        size: 4096,
+        width: 16,
+        a16: false,
+        pins: 1,
+        fstrd: false,
+        rdid: false,
+        sleep: false,
+        identity: [0, 0, 0],
+        saved: false,
+        starts: [4096, 0xc00, 0x800, 0],
+    },
+    // MR45V100A, sheet 000
+    Part {
+        bus: Bus::Spi,
+        size: 131072,
+        width: 24,
+        a16: false,
+        pins: 1,
+        fstrd: true,
+        rdid: true,
+        sleep: true,
+        identity: [0xae, 0x83, 0x9],
+        saved: true,
+        starts: [131072, 0x18000, 0x10000, 0],
+    },
+    // MR45V200B, sheet 004
+    Part {
+        bus: Bus::Spi,
+        size: 262144,
+        width: 24,
+        a16: false,
+        pins: 1,
+        fstrd: false,
+        rdid: true,
+        sleep: false,
+        identity: [0xae, 0x83, 0x1a],
+        saved: true,
+        starts: [262144, 0x30000, 0x20000, 0],
+    },
+    // MR44V064B, sheet 001
+    Part {
+        bus: Bus::I2c,
+        size: 8192,
+        width: 16,
+        a16: false,
+        pins: 8,
+        fstrd: false,
+        rdid: false,
+        sleep: false,
+        identity: [0, 0, 0],
+        saved: false,
+        starts: [8192, 8192, 8192, 8192],
+    },
+    // MS85RC1MTY, sheet 002
+    Part {
+        bus: Bus::I2c,
+        size: 131072,
+        width: 17,
+        a16: true,
+        pins: 4,
+        fstrd: false,
+        rdid: false,
+        sleep: false,
+        identity: [0, 0, 0],
+        saved: false,
+        starts: [131072, 131072, 131072, 131072],
+    },
+];
 
-// Sheet 000.
-pub const MR45V100A: Part = Part {
-    bus: Bus::Spi,
-    size: 131072,
-    width: 24,
-    a16: false,
-    pins: 1,
-    fstrd: true,
-    rdid: true,
-    sleep: true,
-    identity: [0xae, 0x83, 0x9],
-    saved: true,
-    starts: [131072, 0x18000, 0x10000, 0],
-};
-
-// Sheet 004.
-pub const MR45V200B: Part = Part {
-    bus: Bus::Spi,
-    size: 262144,
-    width: 24,
-    a16: false,
-    pins: 1,
-    fstrd: false,
-    rdid: true,
-    sleep: false,
-    identity: [0xae, 0x83, 0x1a],
-    saved: true,
-    starts: [262144, 0x30000, 0x20000, 0],
-};
-
-// Sheet 001.
-pub const MR44V064B: Part = Part {
-    bus: Bus::I2c,
-    size: 8192,
-    width: 16,
-    a16: false,
-    pins: 8,
-    fstrd: false,
-    rdid: false,
-    sleep: false,
-    identity: [0, 0, 0],
-    saved: false,
-    starts: [8192, 8192, 8192, 8192],
-};
-
-// Sheet 002.
-pub const MS85RC1MTY: Part = Part {
-    bus: Bus::I2c,
-    size: 131072,
-    width: 17,
-    a16: true,
-    pins: 4,
-    fstrd: false,
-    rdid: false,
-    sleep: false,
-    identity: [0, 0, 0],
-    saved: false,
-    starts: [131072, 131072, 131072, 131072],
-};
-
-// The part of a number below 5. A table that is indexed would be built anew at each call, row by row.
+// The part of a number below 5. Each row by a constant index: with a number that is known only when it runs, the whole table would be
+// written down anew at each call.
 pub fn part_of(number: usize) -> Part
     requires { ⌜ number < 5 ⌝ }
     ensures { λ r. ⌜ r ≡ partOf number ⌝ }
 {
+    let rows = PARTS;
     match number {
-        0 => MR45V032A,
-        1 => MR45V100A,
-        2 => MR45V200B,
-        3 => MR44V064B,
-        _ => MS85RC1MTY,
+        0 => rows[0],
+        1 => rows[1],
+        2 => rows[2],
+        3 => rows[3],
+        _ => rows[4],
     }
 }

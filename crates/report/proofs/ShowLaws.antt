@@ -10,7 +10,7 @@ use borrow.Author.Tests.{le-ltb}
 use Rattle.runs.specs.declared.run.Ran.{Ran}
 use Rattle.runs.specs.Run.{Run, ranOf}
 use Rattle.runs.specs.Rules.{Counted}
-use Rattle.model.proofs.MadeLaws.{made-counted}
+use Rattle.made.proofs.MadeLaws.{made-counted}
 use Rattle.report.specs.declared.show.Report.{Report}
 use Rattle.report.specs.Report.{unlimited, shownRun, reportOf, textOf, memoryAfterRun}
 use Rattle.report.specs.Text.{text}

@@ -5,7 +5,7 @@ use mathlib.Core.List.{List, []}
 use lib.Dec.{ltb}
 use lib.ListN.{length}
 use Rattle.runs.specs.Run.{Run}
-use Rattle.model.specs.MadeRun.{madeRun}
+use Rattle.made.specs.MadeRun.{madeRun}
 use Rattle.report.specs.declared.show.Report.{Report}
 use Rattle.report.specs.Text.{text}
 

@@ -37,7 +37,7 @@ pub fn show(part: u32, trace: &[u8], memory: &mut [u8], out: &mut [u8]) -> Repor
         };
     }
     let mut answers = no_answers();
-    let ran = model::made::replay_made(
+    let ran = made::replay_made(
         part,
         0,
         0,

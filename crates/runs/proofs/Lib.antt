@@ -5,3 +5,4 @@ pub mod SamplesRun
 pub mod OtherLaws
 pub mod RunRule
 pub mod RunCounts
+pub mod OneLaws

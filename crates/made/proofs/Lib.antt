@@ -1,2 +1,1 @@
-pub mod OneLaws
 pub mod MadeLaws

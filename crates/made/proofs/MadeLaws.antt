@@ -13,16 +13,16 @@ use Rattle.chip.specs.declared.check.Verdict.{Verdict}
 use Rattle.chip.specs.declared.check.Verdict.the-variants.{Passed, Failed}
 use Rattle.chip.specs.declared.model.Model.{Model}
 use Rattle.chip.specs.Check.{checkOf, Sound}
 use Rattle.model.specs.declared.make.Made.{Made}
 use Rattle.model.specs.Make.{makeOf}
 use Rattle.runs.specs.declared.run.Ran.{Ran}
 use Rattle.runs.specs.Run.{ranOf, stop, runOnVerdict, runOf}
 use Rattle.runs.specs.Rules.{Counted}
 use Rattle.runs.proofs.RunCounts.{run-counted}
 use Rattle.runs.proofs.RunRule.{loop-sound}
 use Rattle.byte_path.specs.Select.{Select, partSelect, selectOf}
-use Rattle.model.specs.MadeRun.{madeRun}
-use Rattle.model.specs.Selected.{madeSelect}
+use Rattle.made.specs.MadeRun.{madeRun}
+use Rattle.made.specs.MadeSelect.{madeSelect}
 
 module _ (part pins bits quota : ℕ) (t m : List ℕ) (made : Made) (e : made ≡ makeOf part pins bits) where
   pub made-ran : made .number ≡ 0 → madeRun part pins bits quota t m ≡ runOf quota t (made .model) m

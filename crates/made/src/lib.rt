@@ -2,8 +2,8 @@
 ghost use mathlib.Core.Path.{_≡_};
 ghost use lib.Seq.{sets};
 ghost use Rattle.runs.specs.Run.{ranOf};
-ghost use Rattle.model.specs.MadeRun.{madeRun};
-ghost use Rattle.model.specs.Selected.{madeSelect};
+ghost use Rattle.made.specs.MadeRun.{madeRun};
+ghost use Rattle.made.specs.MadeSelect.{madeSelect};
 ghost use Rattle.selects.specs.Selected.{selectedOf};
 use runs::run::Ran;
 use selects::select::Selected;
@@ -22,10 +22,10 @@ pub fn replay_made(
     ensures memory { λ r. ⌜ now (memory .exit) ≡ madeRun part pins bits quota (now (trace .entry)) (now (memory .entry)) .memory ⌝ }
     ensures answers { λ r. ⌜ now (answers .exit) ≡ sets (now (answers .entry)) 0 (madeRun part pins bits quota (now (trace .entry)) (now (memory .entry)) .answers) ⌝ }
 {
-    let made = crate::make::make(part, pins, bits);
+    let made = model::make::make(part, pins, bits);
     let start = made.model;
     if made.number == 0 {
-        crate::run::replay(start, trace, quota, memory, answers)
+        model::run::replay(start, trace, quota, memory, answers)
     } else {
         runs::run::ended(made.number, start, 0, 0)
     }

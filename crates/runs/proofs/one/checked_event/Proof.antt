@@ -1,8 +1,8 @@
 -- `checked_event` meets its contract: no bytes, or a run of one event. Assumes nothing.
 use borrow.Author.Needs.{needs}
-use Rattle.model.proofs.OneLaws.{nothing-read, one}
-use Rattle.model.proofs.event.checked_event.Statement.{statement}
-use Rattle.model.proofs.event.checked_event.Tie as tie
+use Rattle.runs.proofs.OneLaws.{nothing-read, one}
+use Rattle.runs.proofs.one.checked_event.Statement.{statement}
+use Rattle.runs.proofs.one.checked_event.Tie as tie
 
 returns : tie.Need-returns
 returns c =

@@ -1,8 +1,8 @@
 -- `replay_made` meets its contract, by whether the making is accepted. Assumes nothing.
 use borrow.Author.Needs.{needs}
-use Rattle.model.proofs.MadeLaws.{made-ran, made-refused}
-use Rattle.model.proofs.made.replay_made.Statement.{statement}
-use Rattle.model.proofs.made.replay_made.Tie as tie
+use Rattle.made.proofs.MadeLaws.{made-ran, made-refused}
+use Rattle.made.proofs.replay_made.Statement.{statement}
+use Rattle.made.proofs.replay_made.Tie as tie
 
 returns : tie.Need-returns
 returns c =

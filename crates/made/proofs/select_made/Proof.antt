@@ -1,8 +1,8 @@
 -- `select_made` meets its contract, by whether making and trace are accepted. Assumes nothing.
 use borrow.Author.Needs.{needs}
-use Rattle.model.proofs.MadeLaws.{ran-sound, select-taken, select-refused}
-use Rattle.model.proofs.made.select_made.Statement.{statement}
-use Rattle.model.proofs.made.select_made.Tie as tie
+use Rattle.made.proofs.MadeLaws.{ran-sound, select-taken, select-refused}
+use Rattle.made.proofs.select_made.Statement.{statement}
+use Rattle.made.proofs.select_made.Tie as tie
 
 select-on-part-requires : tie.Need-select-on-part-requires
 select-on-part-requires c κs =

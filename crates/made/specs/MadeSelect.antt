@@ -6,7 +6,7 @@ use lib.Dec.{eqb}
 use lib.ListN.{length}
 use Rattle.runs.specs.Run.{Run}
 use Rattle.byte_path.specs.Select.{Select, selectOf}
-use Rattle.model.specs.MadeRun.{madeRun}
+use Rattle.made.specs.MadeRun.{madeRun}
 
 -- a run that was refused takes no selection: its number comes back, and what the events before left
 abbrev pub selectAfter : Run → Bool → List ℕ → List ℕ → Select

@@ -1,0 +1,2 @@
+pub mod MadeRun
+pub mod MadeSelect
