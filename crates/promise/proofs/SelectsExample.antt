@@ -1,5 +1,5 @@
 -- Steps that are accepted and one that is refused: part 0 with a memory of zeros gets power, then WREN and RDSR as bytes, then a buffer of
--- another length. And the events that RDSR is. Assumes nothing.
+-- another length. The events that RDSR is. And each other number of a selection, with a later one's reason beside it. Assumes nothing.
 use Prim.Native.Nat.{ℕ}
 use mathlib.Core.Path.{_≡_, refl}
 use mathlib.Core.Bool.{true}
@@ -40,3 +40,23 @@ wren-rdsr = refl
 counted : length (eventsSteps (madeBy 0 0 0) (replicate 4096 0) steps) ≡ 69
 unfolding makeOf eventOf checkOf readOf advanceOf stepOf commandOf selectionOf selectOf
 counted = refl
+
+-- two bytes in, and a buffer of one: 13 holds of each
+abbrev short : Step
+short = select true (5 ∷ 0 ∷ []) (7 ∷ [])
+
+-- without power, and where CS# was 0
+refused-12 : seen (shownSteps (madeBy 0 0 0) (replicate 4096 0) (short ∷ event (1 ∷ 24 ∷ []) ∷ short ∷ []))
+    ≡ (12 ∷ 0 ∷ 0 ∷ 7 ∷ []) ∷ (0 ∷ 0 ∷ 0 ∷ 2 ∷ []) ∷ (12 ∷ 0 ∷ 0 ∷ 7 ∷ []) ∷ []
+unfolding makeOf eventOf checkOf readOf advanceOf stepOf commandOf selectionOf selectOf
+refused-12 = refl
+
+-- on an I2C part, without power
+refused-4 : seen (shownSteps (madeBy 3 0 0) (replicate 8192 0) (short ∷ [])) ≡ (4 ∷ 0 ∷ 0 ∷ 7 ∷ []) ∷ []
+unfolding makeOf eventOf checkOf readOf advanceOf stepOf commandOf selectionOf selectOf
+refused-4 = refl
+
+-- and with a memory of another length
+refused-3 : seen (shownSteps (madeBy 3 0 0) [] (short ∷ [])) ≡ (3 ∷ 0 ∷ 0 ∷ 7 ∷ []) ∷ []
+unfolding makeOf eventOf checkOf readOf advanceOf stepOf commandOf selectionOf selectOf
+refused-3 = refl
