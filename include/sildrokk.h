@@ -92,7 +92,8 @@ uint8_t sildrokk_replay(uint32_t part, uint32_t pins, uint32_t bits, uint64_t qu
  * output is left as it is.
  *
  * The model ends with the call. What a selection leaves behind other than in memory, such as an
- * enable, is there for the next one if the trace of the next call has this one, as samples.
+ * enable, is there for the next one if the trace of the next call has this one, as samples. That
+ * trace is then run again, so the memory is to be lent as it was before all of it.
  */
 uint8_t sildrokk_select(uint32_t part, uint32_t pins, uint32_t bits,
                         const uint8_t *trace, size_t trace_length,

@@ -108,7 +108,7 @@ pub record Selection : Type 0 where
   pub back : List Back
 
 module _ (wp : Bool) (s : Model) (m input : List ℕ) where
-  -- CS# has fallen
+  -- CS# has fallen; no bit comes back before the first answer, so what stands for one does not count
   abbrev pub fallen : Pins
   fallen = sampled (record { model = s; memory = m; answer = 2 }) (sampleOf false false false wp)
 

@@ -1,4 +1,4 @@
--- A selection as bytes, with its refusals: 1 to 3 as ever, 4 on an I2C part, 12 without power or with CS# not 1, 13 for a buffer of another
+-- A selection as bytes, with its refusals: 1 to 3 as ever, 4 on an I2C part, 12 without power or with CS# of the last sample not 1, 13 for a buffer of another
 -- length. A refusal leaves state, memory and buffer, and both figures are 0.
 use Prim.Native.Nat.{ℕ}
 use mathlib.Core.Bool.{Bool, cond}
@@ -49,6 +49,7 @@ module _ (wp : Bool) (s : Model) (input output m : List ℕ) where
   abbrev pub busSelect : BusState → Select
   busSelect Unpowered = refusedSelect NotDeselected
   busSelect (SpiOn x) = cond (x .last .cs) sizedSelect (refusedSelect NotDeselected)
+  -- impossible: 1 and 2 come before
   busSelect (I2cOn x) = refusedSelect NotDeselected
 
   -- 4 on an I2C part

@@ -2,7 +2,7 @@
 ghost use mathlib.Core.Path.{_≡_};
 ghost use mathlib.Core.Bool.{cond};
 ghost use mathlib.Core.List.{_++_};
-ghost use Prim.Native.Nat.{_-_, _+_, _<_, _≤_, min};
+ghost use Prim.Native.Nat.{_-_, _+_, _<_, _≤_};
 ghost use lib.Dec.{ltb};
 ghost use lib.ListN.{length, take, drop, getD, replicate};
 ghost use Rattle.byte_path.specs.PinPath.{bytesOf, firstDriven, drivenCount};
@@ -34,7 +34,7 @@ fn next_index(index: u8) -> u8
     if index < 3 { index + 1 } else { index }
 }
 
-// An identity from byte number index on, and 255 past its third byte.
+// An identity from byte number `first` on, and 255 past its third byte.
 fn show_identity(part: Part, first: u8, output: &mut [u8], from: usize)
     requires { ⌜ from ≤ length (now output) ⌝ }
     ensures { λ r. ⌜ now (output .exit) ≡ take from (now (output .entry)) ++ identityFrom (part .identity) first (length (now (output .entry)) - from) ⌝ }
@@ -46,13 +46,6 @@ fn show_identity(part: Part, first: u8, output: &mut [u8], from: usize)
         index = next_index(index);
         at += 1;
     }
-}
-
-// The least of two numbers.
-fn least(a: usize, b: usize) -> usize
-    ensures { λ r. ⌜ r ≡ min a b ⌝ }
-{
-    if a < b { a } else { b }
 }
 
 // What is shown fills the buffer; how many of its bytes are driven.
@@ -80,7 +73,7 @@ fn show_source(
         }
         Source::Identity { index } => {
             show_identity(part, index, output, from);
-            least((3 - index) as usize, left)
+            rolled_write::least((3 - index) as usize, left)
         }
     }
 }

@@ -1,4 +1,4 @@
--- Count and offset, eight bytes each, most significant first, in a buffer of exactly sixteen bytes.
+-- Count and offset of a run, or first and count of a selection, eight bytes each, most significant first, in a buffer of exactly sixteen bytes.
 use Prim.Native.Nat.{ℕ, zero, suc, _*_, _/_, _%_, _^_}
 use mathlib.Core.Bool.{cond}
 use mathlib.Core.List.{List, [], _∷_, _++_}

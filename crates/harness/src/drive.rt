@@ -1,4 +1,5 @@
-// The exported calls: a making and a run, and both with a selection as bytes. Numbers have 32 bits, so that a host's 256 is refused and not cut to 0.
+// The exported calls: a making and a run, and both with a selection as bytes. Numbers have 32 bits, so that a host's 256 is refused and
+// not cut to 0.
 ghost use mathlib.Core.Path.{_≡_};
 ghost use mathlib.Core.Bool.{not};
 ghost use lib.Dec.{eqb};

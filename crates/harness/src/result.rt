@@ -26,7 +26,7 @@ fn put_number(buffer: &mut [u8], start: usize, value: u64)
     }
 }
 
-// Count and offset, if the buffer has sixteen bytes.
+// Count and offset of a run, first and count of a selection, if the buffer has sixteen bytes.
 pub fn write_result(result: &mut [u8], count: u64, offset: u64)
     ensures { λ r. ⌜ now (result .exit) ≡ resultIn count offset (now (result .entry)) ⌝ }
 {

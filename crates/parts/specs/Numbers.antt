@@ -1,4 +1,4 @@
--- The numbers of document 01 for each refusal and each answer.
+-- The numbers of document 01, and of document 02 from 10 on, for each refusal and each answer.
 use Prim.Native.Nat.{ℕ}
 use mathlib.Core.Bool.{Bool, true, false}
 use Rattle.parts.specs.declared.answer.Answer.{Answer}

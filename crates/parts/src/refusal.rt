@@ -1,4 +1,4 @@
-// Why a call is refused: document 01's numbers given back, in the order in which they are tested.
+// Why a call is refused: the numbers given back of document 01, and of document 02 from 10 on, in the order in which they are tested.
 ghost use mathlib.Core.Path.{_≡_};
 ghost use Rattle.parts.specs.Numbers.{refusalNumber};
 
@@ -9,7 +9,7 @@ pub enum Refusal {
     StateRange,
     // 3: the memory is longer or shorter than the part's
     MemoryLength,
-    // 4: no such kind, or the power on of the other bus
+    // 4: no such kind, or the power on of the other bus; a selection as bytes on an I2C part
     UnknownKind,
     // 5: the event's bytes are not all there
     Truncated,

@@ -1,11 +1,12 @@
 // Bytes written to a memory from an address up, and on from 0 after the top, those at a protected start or above passed over. The
-// memory is written in stretches that reach at most to the top, each by one plain copy: no byte's address is looked at.
+// memory is written in stretches that reach at most to the top, each by one copy: no byte's address is looked at.
 ghost use mathlib.Core.Path.{_≡_};
 ghost use Prim.Native.Nat.{_+_, _-_, _<_, _≤_, min};
 ghost use lib.ListN.{length, take, drop};
 ghost use Rattle.rolled_write.specs.Written.{writtenFrom};
 
-fn least(a: usize, b: usize) -> usize
+// The lesser of two numbers.
+pub fn least(a: usize, b: usize) -> usize
     ensures { λ r. ⌜ r ≡ min a b ⌝ }
 {
     if a <= b { a } else { b }

@@ -83,6 +83,7 @@ fn select_on_bus(
                 refused(Refusal::NotDeselected.number(), model)
             }
         }
+        // impossible: the part is on SPI
         BusState::I2cOn { i2c: _ } => refused(Refusal::NotDeselected.number(), model),
     }
 }
