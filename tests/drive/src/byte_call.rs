@@ -6,10 +6,10 @@ use crate::outcome::{first_difference, result_of, Outcome, LEFT};
 use crate::tally::events;
 use crate::{LentBytes, Making, Selected};
 use std::fmt;
-use twin::bytes::spelled;
 use twin::gen::ByteCase;
+use twin::pins::{bits_back, bytes_back, spelled};
 use twin::text::{first_memory, hex};
-use twin::{Model, NOTHING, PARTS};
+use twin::{Model, PARTS};
 
 /// A call of `sildrokk_select`, with the lengths of what it lends to be written. The memory is the
 /// first memory of the vectors.
@@ -109,16 +109,13 @@ impl ByteCall {
         selected: &Selected,
         ours: &Outcome,
     ) -> Result<(), String> {
-        let bytes: Vec<Back> = (0..self.input.len()).map(|at| back(answers, at)).collect();
-        let output: Vec<u8> = bytes.iter().map(|it| it.byte).collect();
+        let (output, figures) = bytes_back(&bits_back(answers, self.input.len()));
         let output_of_bytes = ours.shown.as_deref().unwrap_or_default();
         if let Some(difference) = first_difference("output byte", &output, output_of_bytes) {
             return Err(difference);
         }
-        let first = bytes.iter().position(|it| it.driven);
-        let first = first.unwrap_or(bytes.len()) as u64;
-        let count = bytes.iter().filter(|it| it.driven).count() as u64;
-        if (first, count) != (selected.first, selected.count) {
+        if figures != *selected {
+            let Selected { first, count, .. } = figures;
             return Err(format!("{count} driven from {first} on"));
         }
         Ok(())
@@ -172,23 +169,6 @@ impl ByteCall {
                 count: 0,
             },
         }
-    }
-}
-
-/// A byte that came back, by pins.
-struct Back {
-    byte: u8,
-    driven: bool,
-}
-
-/// The byte in this place: each bit is the answer of the sample before the rise that takes the bit
-/// in the same place, or 1 if that is 2.
-fn back(answers: &[u8], at: usize) -> Back {
-    let before_rises = answers[16 * at..].iter().step_by(2).take(8);
-    let bits: Vec<u8> = before_rises.copied().collect();
-    Back {
-        byte: bits.iter().fold(0, |byte, &bit| byte << 1 | bit.min(1)),
-        driven: bits.iter().any(|&bit| bit != NOTHING),
     }
 }
 

@@ -4,9 +4,9 @@
 
 use drive::script::{self, Script};
 use drive::{tally, Making};
-use twin::bytes::spelled;
 use twin::gen::{self, Case, Rng};
 use twin::part::Wires;
+use twin::pins::spelled;
 use twin::text::first_memory;
 use twin::{Ledger, Part, PARTS};
 

@@ -1,5 +1,5 @@
-//! A selection as bytes. It means the pin samples that `spelled` writes down, but it is told here
-//! by whole bytes, with nothing of the pin path: code, address, then data in stretches.
+//! A selection as bytes. It means the pin samples that `pins::spelled` writes down, but it is told
+//! here by whole bytes, with nothing of the pin path: code, address, then data in stretches.
 
 use crate::part::{spi_pin, Op, Part};
 use crate::spi::Spi;
@@ -27,23 +27,6 @@ impl Selected {
             count: 0,
         }
     }
-}
-
-/// The trace that spells a selection: CS# falls with SCK low and SI 0, each bit is a sample with SCK
-/// high and one with SCK low, and CS# rises with SI kept. HOLD# is 1 throughout.
-pub fn spelled(wp: bool, input: &[u8]) -> Vec<u8> {
-    let others = spi_pin::HOLD | if wp { spi_pin::WP } else { 0 };
-    let mut out = vec![4, others];
-    let mut low = others;
-    for byte in input {
-        for place in (0..8).rev() {
-            let si = byte >> place & 1;
-            low = others | (si * spi_pin::SI);
-            out.extend([4, low | spi_pin::SCK, 4, low]);
-        }
-    }
-    out.extend([4, low | spi_pin::CS]);
-    out
 }
 
 /// The sample in which CS# rises: SI is as the last bit left it.

@@ -9,6 +9,7 @@ pub mod i2c;
 pub mod ledger;
 pub mod model;
 pub mod part;
+pub mod pins;
 pub mod spi;
 pub mod text;
 

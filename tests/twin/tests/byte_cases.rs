@@ -4,8 +4,8 @@ mod common;
 
 use common::pins::{by_pins, Both};
 use common::Bus;
-use twin::bytes::spelled;
 use twin::gen::{self, ByteCase, Rng};
+use twin::pins::spelled;
 use twin::text::{first_memory, ByteLine};
 use twin::{Ledger, Model};
 

@@ -3,7 +3,7 @@
 mod common;
 
 use common::Bus;
-use twin::bytes::spelled;
+use twin::pins::spelled;
 use twin::text::first_byte;
 
 /// A selection that must be accepted, with WP# high: first, count and the bytes.

@@ -1,8 +1,8 @@
 //! Selections as bytes, each with a trace that comes before it.
 
 use super::{border_address, trace_with, Knobs, Rng};
-use crate::bytes::spelled;
 use crate::part::{spi_pin, Part, Wires, PARTS};
+use crate::pins::spelled;
 
 /// A making, a trace, and then a selection.
 #[derive(Clone, Debug)]

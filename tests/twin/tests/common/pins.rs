@@ -1,11 +1,10 @@
-//! A selection by pins: the meaning that the byte path is held against.
+//! A selection by pins on the twin, and what it gives beside the byte path.
 
-use twin::bytes::spelled;
+use twin::pins::{bits_back, bytes_back, spelled};
 use twin::text::OUTPUT_BEFORE;
-use twin::{Model, Selected};
+use twin::{Model, Selected, NOTHING};
 
-/// The spelled samples one by one. A bit that comes back is the answer just before the rise that
-/// takes the bit in the same place, which is the sample before it; 1 where nothing is driven.
+/// The spelled samples one by one.
 pub fn by_pins(
     model: &mut Model,
     memory: &mut [u8],
@@ -21,31 +20,19 @@ pub fn by_pins(
         })
         .collect();
     assert_eq!(answers.len(), 2 + 16 * input.len());
-    // The answer after CS# fell, then those after the falls of SCK but the last.
-    let before: Vec<u8> = answers.iter().copied().step_by(2).collect();
-    let bytes: Vec<&[u8]> = before[..8 * input.len()].chunks(8).collect();
-    let byte = |eight: &&[u8]| eight.iter().fold(0, |sum, &bit| sum << 1 | bit.min(1));
-    let output = bytes.iter().map(byte).collect();
-    (output, figures(&bytes))
+    let bits = bits_back(&answers, input.len());
+    let (output, selected) = bytes_back(&bits);
+    assert_one_stretch(&bits, &selected);
+    (output, selected)
 }
 
-/// A byte is driven if its bits are, all together or none, and the driven ones stand in one stretch.
-fn figures(bytes: &[&[u8]]) -> Selected {
-    let driven = |eight: &&[u8]| {
-        let bits = eight.iter().filter(|&&bit| bit < 2).count();
-        assert!(bits == 0 || bits == 8, "{eight:?}");
-        bits == 8
-    };
-    let first = bytes.iter().position(driven).unwrap_or(bytes.len());
-    let count = bytes[first..]
-        .iter()
-        .take_while(|eight| driven(eight))
-        .count();
-    assert!(!bytes[first + count..].iter().any(driven));
-    Selected {
-        number: 0,
-        first: first as u64,
-        count: count as u64,
+/// A byte's bits are driven all together or none, and the driven bytes stand in one stretch.
+fn assert_one_stretch(bits: &[u8], selected: &Selected) {
+    let stretch = selected.first..selected.first + selected.count;
+    for (eight, at) in bits.chunks(8).zip(0..) {
+        let driven = stretch.contains(&at);
+        let alike = eight.iter().all(|&bit| (bit != NOTHING) == driven);
+        assert!(alike, "byte {at} of {selected:?}: {eight:?}");
     }
 }
 

@@ -6,8 +6,8 @@ use crate::{median, timed};
 use drive::script::{addressed, Script};
 use drive::{Making, Selected};
 use std::hint::black_box;
-use twin::bytes::spelled;
 use twin::gen::Rng;
+use twin::pins::spelled;
 use twin::text::first_memory;
 use twin::{Model, PARTS};
 
