@@ -14,7 +14,6 @@ pub mod script;
 pub mod tally;
 
 pub use archive::{call, call_bytes, Lent, LentBytes};
-pub use outcome::changed;
 pub use twin::{Ran, Selected};
 
 /// What a model is made of; any numbers.

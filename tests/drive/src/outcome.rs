@@ -1,6 +1,6 @@
 //! What a call leaves behind, and the first thing in which two of these differ.
 
-use twin::text::first_byte;
+use twin::text::changed_cells;
 
 /// What is lent to be written is filled with this, so that a byte left as it is can be told.
 pub const LEFT: u8 = 0xa5;
@@ -36,14 +36,8 @@ impl Outcome {
 
     /// Bytes of memory that differ from the first.
     pub fn changed(&self) -> u64 {
-        changed(&self.memory).count() as u64
+        changed_cells(&self.memory).len() as u64
     }
-}
-
-/// The cells of a memory that differ from the first.
-pub fn changed(memory: &[u8]) -> impl Iterator<Item = (usize, u8)> + '_ {
-    let differs = |&(address, byte): &(usize, u8)| byte != first_byte(address);
-    memory.iter().copied().enumerate().filter(differs)
 }
 
 pub fn first_difference(what: &str, ours: &[u8], theirs: &[u8]) -> Option<String> {

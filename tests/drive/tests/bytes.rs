@@ -5,7 +5,7 @@ use drive::byte_call::ByteCall;
 use drive::tally::ByteTally;
 use drive::Making;
 use twin::gen::{self, Rng};
-use twin::text::{first_memory, ByteLine, OUTPUT_BEFORE};
+use twin::text::{changed_cells, first_memory, ByteLine, OUTPUT_BEFORE};
 use twin::PARTS;
 
 const BYTES: &str = include_str!("../../vectors/bytes.txt");
@@ -28,7 +28,7 @@ fn proved(line: &ByteLine) -> ByteLine {
         first: selected.first,
         count: selected.count,
         output,
-        changed: drive::changed(&memory).collect(),
+        changed: changed_cells(&memory),
         ..line.clone()
     }
 }

@@ -2,7 +2,7 @@
 //! offset, answers and changed cells.
 
 use drive::Making;
-use twin::text::{first_memory, Line};
+use twin::text::{changed_cells, first_memory, Line};
 use twin::PARTS;
 
 const BASE: &str = include_str!("../../vectors/base.txt");
@@ -25,7 +25,7 @@ fn proved(line: &Line) -> Line {
     Line {
         ran,
         answers,
-        changed: drive::changed(&memory).collect(),
+        changed: changed_cells(&memory),
         ..line.clone()
     }
 }

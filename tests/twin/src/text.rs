@@ -43,7 +43,7 @@ impl Line {
             trace: trace.to_vec(),
             ran,
             answers,
-            changed: changed_cells(memory),
+            changed: changed_cells(&memory),
         }
     }
 
@@ -119,9 +119,10 @@ pub fn program(part: u32, input: &[u8]) -> String {
 }
 
 /// The cells that are not as in the first memory.
-fn changed_cells(memory: Vec<u8>) -> Vec<(usize, u8)> {
+pub fn changed_cells(memory: &[u8]) -> Vec<(usize, u8)> {
     let differs = |&(address, byte): &(usize, u8)| byte != first_byte(address);
-    memory.into_iter().enumerate().filter(differs).collect()
+    let cells = memory.iter().copied().enumerate();
+    cells.filter(differs).collect()
 }
 
 fn write_changed(changed: &[(usize, u8)]) -> String {

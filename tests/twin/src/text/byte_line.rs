@@ -57,7 +57,7 @@ impl ByteLine {
             first: selected.first,
             count: selected.count,
             output,
-            changed: changed_cells(memory),
+            changed: changed_cells(&memory),
         }
     }
 
