@@ -163,11 +163,7 @@ impl ByteCall {
         };
         match number {
             0 => model.select(self.wp != 0, &self.input, output, memory),
-            number => Selected {
-                number,
-                first: 0,
-                count: 0,
-            },
+            number => Selected::refused(number),
         }
     }
 }

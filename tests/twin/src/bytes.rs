@@ -20,7 +20,7 @@ pub struct Selected {
 
 impl Selected {
     /// Both figures are 0 on every refusal.
-    pub(crate) fn refused(number: u8) -> Selected {
+    pub fn refused(number: u8) -> Selected {
         Selected {
             number,
             first: 0,

@@ -3,7 +3,7 @@
 mod common;
 
 use common::Bus;
-use twin::{Model, Selected, PARTS};
+use twin::{Model, PARTS};
 
 /// What is sent: it would write if it were taken.
 const INPUT: [u8; 6] = [2, 0, 0, 0, 0x55, 0xaa];
@@ -15,16 +15,11 @@ fn refused(model: &Model, memory: &[u8], input: &[u8], length: usize) -> u8 {
         let mut output: Vec<u8> = (0..length).map(|at| at as u8 ^ 0x3c).collect();
         let before = output.clone();
         let selected = after.select(wp, input, &mut output, &mut cells);
-        let number = selected.number;
-        let none = Selected {
-            number,
-            first: 0,
-            count: 0,
-        };
-        assert_ne!(number, 0);
-        assert_eq!((selected, &after, output), (none, model, before));
+        assert_ne!(selected.number, 0);
+        assert_eq!((selected.first, selected.count), (0, 0));
+        assert_eq!((&after, output), (model, before));
         assert!(cells == memory);
-        number
+        selected.number
     });
     assert_eq!(numbers[0], numbers[1]);
     numbers[0]
