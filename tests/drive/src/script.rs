@@ -127,11 +127,9 @@ impl Script {
     }
 }
 
-/// A code and an address as the SPI part wants it.
+/// A code and an address as the SPI part of this number takes them.
 pub fn addressed(part: u32, code: u8, address: usize) -> Vec<u8> {
-    let width = PARTS[part as usize].address_bits as usize / 8;
-    let address = (address as u32).to_be_bytes();
-    [&[code], &address[4 - width..]].concat()
+    PARTS[part as usize].addressed(code, address)
 }
 
 /// I2C: two samples to a clock, SCL low and then high.

@@ -94,7 +94,7 @@ impl Look {
             Wires::Spi => {
                 script.spi_on();
                 let status = Some(script.ask_status());
-                let byte = script.ask(&script::addressed(part.number, 3, address), 1)[0];
+                let byte = script.ask(&part.addressed(3, address), 1)[0];
                 Look {
                     script,
                     status,

@@ -154,6 +154,13 @@ impl Part {
         found.map(|&(_, op)| op)
     }
 
+    /// A code and an address as a SPI part takes them.
+    pub fn addressed(&self, code: u8, address: usize) -> Vec<u8> {
+        let width = self.address_bits as usize / 8;
+        let address = (address as u32).to_be_bytes();
+        [&[code], &address[4 - width..]].concat()
+    }
+
     /// The highest sample number.
     pub fn max_sample(&self) -> u8 {
         match self.wires {

@@ -121,9 +121,7 @@ fn commands_in_all_states() {
 
 /// A code and an address as the part takes it, then some data.
 fn addressed(part: u32, code: u8, address: usize, data: usize) -> Vec<u8> {
-    let width = PARTS[part as usize].address_bits as usize / 8;
-    let address = (address as u32).to_be_bytes();
-    let mut input = [&[code], &address[4 - width..]].concat();
+    let mut input = PARTS[part as usize].addressed(code, address);
     input.extend((0..data).map(|at| 0x5d ^ (at * 41) as u8));
     input
 }

@@ -118,10 +118,8 @@ fn status_write(rng: &mut Rng) -> Vec<u8> {
 fn addressed(rng: &mut Rng, part: &Part, code: u8, data: u64) -> Vec<u8> {
     let near = border_address(rng, part);
     let before = if rng.chance(400) { rng.below(40) } else { 0 };
-    let sent = near.wrapping_sub(before as u32).to_be_bytes();
-    let width = part.address_bits as usize / 8;
-    let head = [&[code], &sent[4 - width..]].concat();
-    with_data(rng, head, data)
+    let sent = near.wrapping_sub(before as u32);
+    with_data(rng, part.addressed(code, sent as usize), data)
 }
 
 /// Some bytes behind the head.
