@@ -1,7 +1,7 @@
 //! Calls with something wrong or at its limit, each with the number that it is to return.
 
 use crate::call::Call;
-use crate::script::{addressed, Script};
+use crate::script::Script;
 use crate::{tally, Making};
 use twin::part::Wires;
 use twin::{Part, PARTS};
@@ -21,15 +21,16 @@ pub fn calls() -> Vec<(Call, u8)> {
     of_parts.chain(parts()).collect()
 }
 
-/// A call that stores a byte in the first memory; each wrong thing must keep it from that. Its
-/// answers change often, so that one that lands in another's place is seen.
-fn storing(part: &Part) -> Call {
-    let script = match part.wires {
+/// Where the good calls store a byte.
+pub(crate) const STORED_AT: usize = 0x123;
+
+/// A trace that stores a byte there, which changes the first memory, and leaves the part at rest.
+pub(crate) fn one_stored(part: &Part) -> Script {
+    match part.wires {
         Wires::Spi => {
             let mut script = Script::spi();
             script.command(&[6]);
-            script.command(&[&addressed(part.number, 2, 0x123)[..], &[0x77]].concat());
-            script.ask(&addressed(part.number, 3, 0x123), 1);
+            script.command(&[part.addressed(2, STORED_AT), vec![0x77]].concat());
             script
         }
         Wires::I2c => {
@@ -39,7 +40,16 @@ fn storing(part: &Part) -> Call {
             script.stop();
             script
         }
-    };
+    }
+}
+
+/// A call that stores a byte in the first memory; each wrong thing must keep it from that. Its
+/// answers change often, so that one that lands in another's place is seen.
+fn storing(part: &Part) -> Call {
+    let mut script = one_stored(part);
+    if part.wires == Wires::Spi {
+        script.ask(&part.addressed(3, STORED_AT), 1);
+    }
     Call::whole(plain(part.number), script.into_trace())
 }
 

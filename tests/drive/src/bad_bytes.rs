@@ -1,9 +1,8 @@
 //! Selections as bytes with something wrong or at its limit, each with the number that it is to
 //! return and how many bytes of memory then differ from the first.
 
-use crate::bad::{no_makings, no_sizes, plain, NO_PARTS, RESULTS};
+use crate::bad::{no_makings, no_sizes, one_stored, plain, NO_PARTS, RESULTS, STORED_AT};
 use crate::byte_call::ByteCall;
-use crate::script::{addressed, Script};
 use twin::part::{spi_pin, Wires};
 use twin::text::first_byte;
 use twin::{Part, PARTS};
@@ -18,10 +17,9 @@ pub struct Bad {
 
 /// What the trace of a good call changes in memory.
 const BY_TRACE: u64 = 1;
-/// What the selection of the first good call then changes.
+/// What the selection of the first good call then changes, from `SELECTED_AT` on.
 const BY_SELECTION: u64 = 3;
-/// Where these are.
-const PLACES: [usize; 2] = [0x123, 0x200];
+const SELECTED_AT: usize = 0x200;
 
 /// All of them.
 pub fn calls() -> Vec<Bad> {
@@ -37,41 +35,26 @@ pub fn calls() -> Vec<Bad> {
 }
 
 /// A trace that stores one byte and leaves the part at rest, enabled if it is on SPI.
-fn storing(part: &Part) -> Script {
-    let data = !first_byte(PLACES[0]);
-    match part.wires {
-        Wires::Spi => {
-            let mut script = Script::spi();
-            script.command(&[6]);
-            script.command(&[addressed(part.number, 2, PLACES[0]), vec![data]].concat());
-            script.command(&[6]);
-            script
-        }
-        Wires::I2c => {
-            let mut script = Script::i2c(0);
-            script.start();
-            script.give_all(&[0xa0, 0x01, 0x23, data]);
-            script.stop();
-            script
-        }
+fn storing(part: &Part) -> Vec<u8> {
+    let mut script = one_stored(part);
+    if part.wires == Wires::Spi {
+        script.command(&[6]);
     }
+    script.into_trace()
 }
 
 /// After that trace, selections of the part (of part 0 for one that has none): three bytes stored,
 /// four driven, and no bytes at all. Each wrong thing must keep them from that.
 fn good(part: &Part) -> [ByteCall; 3] {
-    let codes_of = if part.wires == Wires::Spi {
-        part.number
-    } else {
-        0
+    let codes_of = match part.wires {
+        Wires::Spi => part,
+        Wires::I2c => &PARTS[0],
     };
-    let data: Vec<u8> = (0..3).map(|at| !first_byte(PLACES[1] + at)).collect();
-    let writes = [addressed(codes_of, 2, PLACES[1]), data].concat();
-    let shows = [addressed(codes_of, 3, PLACES[0] - 1), vec![0; 4]].concat();
-    [writes, shows, Vec::new()].map(|input| {
-        let trace = storing(part).into_trace();
-        ByteCall::whole(plain(part.number), trace, 1, input)
-    })
+    let data: Vec<u8> = (0..3).map(|at| !first_byte(SELECTED_AT + at)).collect();
+    let writes = [codes_of.addressed(2, SELECTED_AT), data].concat();
+    let shows = [codes_of.addressed(3, STORED_AT - 1), vec![0; 4]].concat();
+    [writes, shows, Vec::new()]
+        .map(|input| ByteCall::whole(plain(part.number), storing(part), 1, input))
 }
 
 /// Each good call changed in each of some ways, with the number to come.
@@ -123,7 +106,7 @@ fn makings(part: &Part) -> Vec<Bad> {
 /// Memories of another length, whatever the trace: 3 comes before its numbers and before 4 and 12.
 fn memories(part: &Part) -> Vec<Bad> {
     let sizes = no_sizes(part);
-    let traces = [storing(part).into_trace(), vec![], vec![0xff]];
+    let traces = [storing(part), vec![], vec![0xff]];
     let each = |trace: &Vec<u8>| {
         each_way(part, &sizes, 3, 0, |call, &size| {
             call.memory = size;
