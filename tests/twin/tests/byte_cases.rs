@@ -17,7 +17,8 @@ struct Tally {
     showed: u32,
     /// Changed the memory or the status bits.
     wrote: u32,
-    without_power: u32,
+    /// Without power, or CS# 0.
+    unready: u32,
     other_length: u32,
     trace_refused: u32,
     bytes: usize,
@@ -42,7 +43,7 @@ impl Tally {
                 self.showed += u32::from(selected.count > 0);
                 self.wrote += u32::from(cells != memory || after.bits() != model.bits());
             }
-            12 => self.without_power += 1,
+            12 => self.unready += 1,
             13 => self.other_length += 1,
             number => panic!("{number}"),
         }
@@ -59,7 +60,7 @@ fn cases_of(part: u32, cases: u32) {
     assert!(tally.showed > cases / 5, "{tally:?}");
     assert!(tally.wrote > cases / 10, "{tally:?}");
     assert!(tally.trace_refused > cases / 100, "{tally:?}");
-    assert!(tally.without_power > cases / 50, "{tally:?}");
+    assert!(tally.unready > cases / 50, "{tally:?}");
     assert!(tally.other_length > cases / 100, "{tally:?}");
 }
 
