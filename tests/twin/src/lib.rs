@@ -1,5 +1,5 @@
-//! An independent model of the five parts of the scope paper, kept as a second opinion: it is
-//! written from the paper alone and shares no line with the build that it is compared with.
+//! An independent model of the five parts, kept as a second opinion: it is written from the papers
+//! of scope and of change requests alone and shares no line with the build that it is compared with.
 
 #![forbid(unsafe_code)]
 

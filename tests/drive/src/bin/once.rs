@@ -1,5 +1,6 @@
-//! Some dozen traces and selections as bytes of all parts and every bad call, compared once: small enough for valgrind,
-//! under which each buffer is lent by itself and with no byte to spare.
+//! Some dozens of traces of all parts and of selections as bytes of the SPI parts, every bad call and
+//! one in four of the bad selections, compared once: small enough for valgrind, under which each
+//! buffer is lent by itself and with no byte to spare.
 
 use drive::byte_call::ByteCall;
 use drive::call::Call;
