@@ -62,12 +62,18 @@ fn no_bytes_at_all() {
         first: 0,
         count: 0,
     };
-    for part in 0..3 {
-        for bus in all_states(part) {
-            for wp in [false, true] {
-                assert_eq!(both(&bus).agree(wp, &[]), (vec![], none));
-            }
-        }
+    for bus in (0..3).flat_map(all_states) {
+        let mut both = both(&bus);
+        assert_eq!(both.agree(false, &[]), (vec![], none));
+        assert_eq!(both.agree(true, &[]), (vec![], none));
+    }
+}
+
+/// The first byte, the first two, and so on up to all of them, with either WP#.
+fn every_length(both: &mut Both, input: &[u8]) {
+    for length in 1..=input.len() {
+        both.agree(true, &input[..length]);
+        both.agree(false, &input[..length]);
     }
 }
 
@@ -77,10 +83,7 @@ fn every_code(part: u32) {
         let mut both = both(&bus);
         for code in 0..=255 {
             let input = [code, 0x00, 0x2f, 0xfe, 0x8d, 0x01, 0xa6, 0x00, 0x53];
-            for length in 1..=9 {
-                both.agree(true, &input[..length]);
-                both.agree(false, &input[..length]);
-            }
+            every_length(&mut both, &input);
         }
     }
 }
@@ -103,17 +106,11 @@ fn every_code_of_part_2() {
 /// WRSR with each of the status bits asked for, and the others, in all states.
 #[test]
 fn commands_in_all_states() {
-    for part in 0..3 {
-        for bus in all_states(part) {
-            let mut both = both(&bus);
-            for (at, code) in CODES.into_iter().enumerate() {
-                for data in [0x00, 0x04, 0x88, 0x73, 0xff] {
-                    let input = [code, data, 0x0b, 0xff - at as u8, 0x21, 0x84, 0x5e];
-                    for length in [1, 2, 3, 4, 5, 6, 7] {
-                        both.agree(true, &input[..length]);
-                        both.agree(false, &input[..length]);
-                    }
-                }
+    for bus in (0..3).flat_map(all_states) {
+        let mut both = both(&bus);
+        for (code, at) in CODES.into_iter().zip(0..) {
+            for data in [0x00, 0x04, 0x88, 0x73, 0xff] {
+                every_length(&mut both, &[code, data, 0x0b, 0xff - at, 0x21, 0x84, 0x5e]);
             }
         }
     }
@@ -126,23 +123,32 @@ fn addressed(part: u32, code: u8, address: usize, data: usize) -> Vec<u8> {
     input
 }
 
-/// Reads and writes a little before each border, at it and behind it, with all block bits.
+/// Addresses a little before each border, at it and behind it.
+fn near_borders(part: u32) -> impl Iterator<Item = usize> {
+    let table = &PARTS[part as usize];
+    // The size is added so that none lies below 0; it counts modulo the size.
+    let near = move |border: usize| {
+        [1, 0, -1, -2, -300].map(|more| (border + table.size).wrapping_add_signed(more))
+    };
+    table.protected_from.into_iter().flat_map(near)
+}
+
+/// Reads and writes at an address, of no data, of little, and of so much that it reaches a border.
+fn at_address(part: u32, address: usize) -> impl Iterator<Item = Vec<u8>> {
+    let of_code = move |code| [0, 1, 2, 3, 301].map(|data| addressed(part, code, address, data));
+    [0x02, 0x03, 0x0b].into_iter().flat_map(of_code)
+}
+
+/// Reads and writes near each border, with all block bits.
 #[test]
 fn around_the_borders() {
     for part in 0..3 {
-        let table = &PARTS[part as usize];
+        let near = near_borders(part).flat_map(|address| at_address(part, address));
+        let inputs: Vec<Vec<u8>> = near.collect();
         for bits in 0..4 {
             let mut both = both(&written(part, bits, true));
-            for border in table.protected_from {
-                for before in [-1, 0, 1, 2, 300] {
-                    // The size is added so that none lies below 0; it counts modulo the size.
-                    let address = (border + table.size).wrapping_add_signed(-before);
-                    for code in [0x02, 0x03, 0x0b] {
-                        for data in [0, 1, 2, 3, 301] {
-                            both.agree(true, &addressed(part, code, address, data));
-                        }
-                    }
-                }
+            for input in &inputs {
+                both.agree(true, input);
             }
         }
     }
