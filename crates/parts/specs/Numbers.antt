@@ -4,7 +4,7 @@ use mathlib.Core.Bool.{Bool, true, false}
 use Rattle.parts.specs.declared.answer.Answer.{Answer}
 use Rattle.parts.specs.declared.answer.Answer.the-variants.{Low, High, HighZ}
 use Rattle.parts.specs.declared.refusal.Refusal.{Refusal}
-use Rattle.parts.specs.declared.refusal.Refusal.the-variants.{ModelRange, StateRange, MemoryLength, UnknownKind, Truncated, FieldRange, Unpowered, Powered, Unexpected, NotDeselected, BufferLength}
+use Rattle.parts.specs.declared.refusal.Refusal.the-variants.{ModelRange, StateRange, MemoryLength, UnknownKind, Truncated, SampleRange, StartRange, ExpectedRange, Unpowered, Powered, Unexpected, NotDeselected, BufferLength}
 
 -- 'Numbers given back', in the order in which they are tested
 abbrev pub refusalNumber : Refusal → ℕ
@@ -13,7 +13,9 @@ refusalNumber StateRange = 2
 refusalNumber MemoryLength = 3
 refusalNumber UnknownKind = 4
 refusalNumber Truncated = 5
-refusalNumber FieldRange = 6
+refusalNumber SampleRange = 6
+refusalNumber StartRange = 10
+refusalNumber ExpectedRange = 11
 refusalNumber Unpowered = 7
 refusalNumber Powered = 8
 refusalNumber Unexpected = 9

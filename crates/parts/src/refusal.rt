@@ -13,8 +13,12 @@ pub enum Refusal {
     UnknownKind,
     // 5: the event's bytes are not all there
     Truncated,
-    // 6: a sample, start address or expected answer too large
-    FieldRange,
+    // 6: a sample too large
+    SampleRange,
+    // 10: a start address of the size or more
+    StartRange,
+    // 11: an expected answer above 2
+    ExpectedRange,
     // 7: an event that needs power, without it
     Unpowered,
     // 8: a power on under power
@@ -37,7 +41,9 @@ impl Refusal {
             Refusal::MemoryLength => 3,
             Refusal::UnknownKind => 4,
             Refusal::Truncated => 5,
-            Refusal::FieldRange => 6,
+            Refusal::SampleRange => 6,
+            Refusal::StartRange => 10,
+            Refusal::ExpectedRange => 11,
             Refusal::Unpowered => 7,
             Refusal::Powered => 8,
             Refusal::Unexpected => 9,

@@ -114,7 +114,7 @@ module _ (p : Part) (made : SavedBits) where
 
   on-fed : (y : Bool) (r : Read) (a : ℕ) (h : List Entry) → Steps (items h) (items (cond y (withEvent r a h) h))
   on-fed true (Whole e n) a h = on-event e a h
-  on-fed true (Refused r) a h = old refl
+  on-fed true (Refused r place) a h = old refl
   on-fed false r a h = old refl
 
 -- for every making, first memory and list of events, and one event more

@@ -155,7 +155,7 @@ module _ (part pins bits : ℕ) (first : List ℕ) where
     read-grows (Whole e n) a h =
         ledger-grows model (part-fits (model .part) (model-in model (made-in part pins bits .0) .known) .wide)
         (range-wired model (made-in part pins bits)) e a h
-    read-grows (Refused r) a h = (Nothing, sym (append-nil (ledgerStores model h)))
+    read-grows (Refused r place) a h = (Nothing, sym (append-nil (ledgerStores model h)))
 
     -- an accepted event had a memory of the part's size
     sized : eqb (next .number) 0 ≡ true → length (memoryOf es) ≡ row .size

@@ -16,7 +16,7 @@ use Rattle.parts.specs.Table.{isSpi, partOf}
 use Rattle.trace.specs.declared.event.Event.{Event}
 use Rattle.trace.specs.declared.read.Read.{Read}
 use Rattle.trace.specs.declared.read.Read.the-variants.{Whole, Refused}
-use Rattle.trace.specs.Event.{fieldsIn}
+use Rattle.trace.specs.Event.{sampleIn, startIn, expectedIn}
 use Rattle.trace.specs.Read as Trace
 use Rattle.chip.specs.declared.check.Verdict.the-variants.{Passed, Failed}
 use Rattle.chip.specs.declared.model.BusState.{BusState}
@@ -40,23 +40,29 @@ Late n = (eqb n 1 ≡ false) × (eqb n 2 ≡ false)
 
 abbrev LateRead : Read → Type 0
 LateRead (Whole e n) = Unit {0}
-LateRead (Refused r) = Late (refusalNumber r)
+LateRead (Refused r place) = Late (refusalNumber r)
 
--- ---- the reader gives 4, 5 or 6
+-- ---- the reader gives 4, 5, 6, 10 or 11
 
 read-late : (p : Part) (t : List ℕ) → LateRead (Trace.readOf p t)
 unfolding Trace.readOf
 read-late p t =
     by (eqb (length t) 0) (Trace.knownKind (p .bus) (getD t 0 0)) (ltb (length t) (Trace.eventLength (getD t 0 0)))
-    (fieldsIn p (Trace.parsedEvent (getD t 0 0) t)) (Trace.parsedEvent (getD t 0 0) t) (Trace.eventLength (getD t 0 0))
+    (Trace.parsedEvent (getD t 0 0) t) (Trace.eventLength (getD t 0 0))
   where
-    by : (a b c d : Bool) (e : Event) (n : ℕ)
-        → LateRead (cond a (Refused R.Truncated) (cond b (cond c (Refused R.Truncated) (cond d (Whole e n) (Refused R.FieldRange))) (Refused R.UnknownKind)))
-    by true b c d e n = (refl, refl)
-    by false true true d e n = (refl, refl)
-    by false true false true e n = tt
-    by false true false false e n = (refl, refl)
-    by false false c d e n = (refl, refl)
+    fields : (a b c : Bool) (e : Event) (n : ℕ)
+        → LateRead (cond a (cond b (cond c (Whole e n) (Refused R.ExpectedRange 1)) (Refused R.StartRange 2)) (Refused R.SampleRange 1))
+    fields true true true e n = tt
+    fields true true false e n = (refl, refl)
+    fields true false c e n = (refl, refl)
+    fields false b c e n = (refl, refl)
+
+    by : (a b c : Bool) (e : Event) (n : ℕ)
+        → LateRead (cond a (Refused R.Truncated 0) (cond b (cond c (Refused R.Truncated 0) (Trace.fieldsRead p e n)) (Refused R.UnknownKind 0)))
+    by true b c e n = (refl, refl)
+    by false true true e n = (refl, refl)
+    by false true false e n = fields (sampleIn p e) (startIn p e) (expectedIn e) e n
+    by false false c e n = (refl, refl)
 
 -- ---- an event that was read gives 0, 7, 8 or 9
 
@@ -68,7 +74,7 @@ done-late (accepted-as a after left q r) = (refl, refl)
 
 on-read : (r : Read) (s : Model) (m : List ℕ) → LateRead r → Late (onRead r s m .result .number)
 on-read (Whole e n) s m h = done-late (done s m e)
-on-read (Refused r) s m h = h
+on-read (Refused r place) s m h = h
 
 event-late : {s : Model} → Reached s → (m t : List ℕ) → Late (eventOf s m t .result .number)
 unfolding eventOf
@@ -78,10 +84,10 @@ event-late {s} r m t = rw (reached-check r (length m)) (by (eqb (length m) (part
     by true = on-read (Trace.readOf (partOf (s .part)) t) s m (read-late (partOf (s .part)) t)
     by false = (refl, refl)
 
-stops-late : (q n : ℕ) (t : List ℕ) (s : Model) (m : List ℕ) → Stops t s m q n → Reached s → Late n
-stops-late q n t s m at-quota r = (refl, refl)
-stops-late q n t s m (at-end z) r = (refl, refl)
-stops-late q n t s m (at-refusal some not-0) r = event-late r m t
+stops-late : (q n place : ℕ) (t : List ℕ) (s : Model) (m : List ℕ) → Stops t s m q n place → Reached s → Late n
+stops-late q n place t s m at-quota r = (refl, refl)
+stops-late q n place t s m (at-end z) r = (refl, refl)
+stops-late q n place t s m (at-refusal some not-0) r = event-late r m t
 
 loop-late : (quota : ℕ) (t : List ℕ) (s : Model) (m : List ℕ) → Reached s → Late (loopOf quota t s m .number)
 loop-late =

@@ -81,7 +81,7 @@ event-in s m t h = by (checkOf s (length m)) refl
   where
     by-read : (r : Read) → checkOf s (length m) ≡ Passed → readOf (partOf (s .part)) t ≡ r → InRange (onRead r s m .result .model)
     by-read (Whole e n) c q = sound-range (advanceOf s m e .result .model) (advanceOf s m e .memory) (keeps s m e c (suits (partOf (s .part)) t e n q))
-    by-read (Refused r) c q = h
+    by-read (Refused r place) c q = h
 
     by : (v : Verdict) → checkOf s (length m) ≡ v → InRange (eventOnVerdict v s m t .result .model)
     by Passed c = by-read (readOf (partOf (s .part)) t) c refl

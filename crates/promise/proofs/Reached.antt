@@ -23,7 +23,7 @@ use Rattle.promise.proofs.SelectSteps.{step-leaves}
 loop-in : (quota : ℕ) (t : List ℕ) (s : Model) (m : List ℕ) → InRange s → InRange (loopOf quota t s m .model)
 loop-in =
     loop-induction (λ q t s m r. InRange s → InRange (r .model))
-    (λ q n t s m e h. h)
+    (λ q n place t s m e h. h)
     (λ q t s m some none r k h. k (event-in s m t h))
 
 run-in : (quota : ℕ) (t : List ℕ) (s : Model) (m : List ℕ) → InRange s → InRange (runOf quota t s m .model)

@@ -21,7 +21,7 @@ use Rattle.chip.specs.declared.model.Model.{Model}
 use Rattle.chip.specs.Check.{checkOf}
 use Rattle.runs.specs.Event.{eventOf}
 use Rattle.runs.specs.Event as One
-use Rattle.runs.specs.Run.{Run, stop, after, runOnVerdict, loopOf, runOf}
+use Rattle.runs.specs.Run.{Run, stopAt, after, runOnVerdict, loopOf, runOf}
 use Rattle.runs.proofs.RunLaws.{taken, Stops, at-quota, at-end, at-refusal, loop-induction}
 use Rattle.promise.specs.Lists.{modelAfter, memoryAfter}
 use Rattle.promise.specs.Promise.{madeBy}
@@ -72,7 +72,7 @@ take-more c u es = rw (one-add c)
 
 module _ (es : List (List ℕ)) (s : Model) (m : List ℕ) where
   -- no event is left
-  ran-none : length es ≡ 0 → ByEvents es s m (stop 0 s m)
+  ran-none : length es ≡ 0 → ByEvents es s m (stopAt 0 0 s m)
   ran-none h =
       record {
         model = refl;
@@ -84,8 +84,8 @@ module _ (es : List (List ℕ)) (s : Model) (m : List ℕ) where
       }
 
   -- the next one is refused
-  ran-refused : (n : ℕ) → (n ≡ 0 → ⊥) → eventOf s m (getD es 0 []) .result .number ≡ n → ByEvents es s m (stop n s m)
-  ran-refused n h e =
+  ran-refused : (n place : ℕ) → (n ≡ 0 → ⊥) → eventOf s m (getD es 0 []) .result .number ≡ n → ByEvents es s m (stopAt n place s m)
+  ran-refused n place h e =
       record { model = refl; memory = refl; accepted = refl; answers = refl; refused = λ z. e; whole = λ z. absurd (h z) }
 
   -- an event u before them is accepted
@@ -110,11 +110,11 @@ module _ (es : List (List ℕ)) (s : Model) (m : List ℕ) where
 abbrev Ran : ℕ → List ℕ → Model → List ℕ → Run → Type 0
 Ran q t s m r = ByEvents (split q t) s m r
 
-stops-ran : (q n : ℕ) (t : List ℕ) (s : Model) (m : List ℕ) → Stops t s m q n → Ran q t s m (stop n s m)
-stops-ran q n t s m at-quota = ran-none [] s m refl
-stops-ran q n t s m (at-end z) = rw (eq-eqb _ _ z) (ran-none [] s m refl)
-stops-ran q n t s m (at-refusal {q = j} some not-0) =
-    rw (ne-eqb _ _ some) (ran-refused (take (taken t) t ∷ split j (drop (taken t) t)) s m _ not-0 (rw (event-same s m t)))
+stops-ran : (q n place : ℕ) (t : List ℕ) (s : Model) (m : List ℕ) → Stops t s m q n place → Ran q t s m (stopAt n place s m)
+stops-ran q n place t s m at-quota = ran-none [] s m refl
+stops-ran q n place t s m (at-end z) = rw (eq-eqb _ _ z) (ran-none [] s m refl)
+stops-ran q n place t s m (at-refusal {q = j} some not-0) =
+    rw (ne-eqb _ _ some) (ran-refused (take (taken t) t ∷ split j (drop (taken t) t)) s m _ _ not-0 (rw (event-same s m t)))
 
 goes-on-ran : (q : ℕ) (t : List ℕ) (s : Model) (m : List ℕ) → (length t ≡ 0 → ⊥) → eventOf s m t .result .number ≡ 0 → (r : Run)
     → Ran q (drop (taken t) t) (eventOf s m t .result .model) (eventOf s m t .memory) r
@@ -134,7 +134,7 @@ run-events q t s m = by (checkOf s (length m)) refl
   where
     by : (v : Verdict) → checkOf s (length m) ≡ v → ByEvents (split q t) s m (runOnVerdict v q t s m)
     by Passed e = loop-ran q t s m
-    by (Failed r) e = ran-refused (split q t) s m (refusalNumber r) (number-positive r) (failed (getD (split q t) 0 []))
+    by (Failed r) e = ran-refused (split q t) s m (refusalNumber r) 0 (number-positive r) (failed (getD (split q t) 0 []))
       where
         failed : (u : List ℕ) → eventOf s m u .result .number ≡ refusalNumber r
         failed u = rw e

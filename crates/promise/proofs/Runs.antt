@@ -44,7 +44,7 @@ module _ (p : Part) (Fits : Model → List ℕ → List Entry → Type 0)
 
     read-fits : (r : Read) → Sound s m → readOf p t ≡ r → FitsAfter t h (onRead r s m)
     read-fits (Whole e n) c q = rw q (step s m h e f c (suits p t e n q))
-    read-fits (Refused r) c q = refused-fits r
+    read-fits (Refused r place) c q = refused-fits r
 
     check-fits : (v : Verdict) → checkOf s (length m) ≡ v → FitsAfter t h (eventOnVerdict v s m t)
     check-fits Passed c = rw (same s m h f) (read-fits (readOf p t) c refl)

@@ -34,7 +34,7 @@ module _ (s : Model) (m : List ℕ) where
       by-read : (r : Read) → readOf (partOf (s .part)) t ≡ r → eqb (onRead r s m .result .number) 0 ≡ true
           → (e : Event) × (n : ℕ) × readOf (partOf (s .part)) t ≡ Whole e n
       by-read (Whole e n) q h = (e, n, q)
-      by-read (Refused r) q h = absurd (false≢true (sym (refusal-counts r) ∙ h))
+      by-read (Refused r place) q h = absurd (false≢true (sym (refusal-counts r) ∙ h))
 
       by : (v : Verdict) → eqb (eventOnVerdict v s m t .result .number) 0 ≡ true → (e : Event) × (n : ℕ) × readOf (partOf (s .part)) t ≡ Whole e n
       by Passed h = by-read (readOf (partOf (s .part)) t) refl h

@@ -14,7 +14,7 @@ use Rattle.promise.specs.Lists.{Observed}
 -- a history with one event more, if the bytes hold one; the latest first
 abbrev pub withEvent : Read → ℕ → List Entry → List Entry
 withEvent (Whole e n) answer h = record { event = e; answer = answer } ∷ h
-withEvent (Refused r) answer h = h
+withEvent (Refused r place) answer h = h
 
 -- the history after an event of these bytes that showed x: an accepted event is entered with its answer, a refused one is not
 abbrev pub fedOne : Part → List ℕ → Observed → List Entry → List Entry

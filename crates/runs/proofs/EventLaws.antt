@@ -28,9 +28,9 @@ module _ (s : Model) (m t : List ℕ) (sound : Sound s m) where
   event-whole e n h = rw (sound, h)
 
   -- anything else is refused by the reader
-  pub event-refused : (r : Refusal) → readOf (partOf (s .part)) t ≡ Refused r → eventOf s m t ≡ keeping m (refused r s)
+  pub event-refused : (r : Refusal) (place : ℕ) → readOf (partOf (s .part)) t ≡ Refused r place → eventOf s m t ≡ keeping m (refused r s)
   unfolding eventOf
-  event-refused r h = rw (sound, h)
+  event-refused r place h = rw (sound, h)
 
   -- the bytes that it takes, and that state and memory still pass
   pub event-taken : (e : Event) (n : ℕ) → readOf (partOf (s .part)) t ≡ Whole e n → eventLength (getD t 0 0) ≡ n
@@ -45,7 +45,7 @@ event-sound s m t sound = by (readOf (partOf (s .part)) t) refl
   where
     by : (r : Read) → readOf (partOf (s .part)) t ≡ r → Sound (eventOf s m t .result .model) (eventOf s m t .memory)
     by (Whole e n) h = rw (event-whole s m t sound e n h) (event-keeps s m t sound e n h)
-    by (Refused r) h = rw (event-refused s m t sound r h) sound
+    by (Refused r place) h = rw (event-refused s m t sound r place h) sound
 
 -- any bytes on any state: a refused event drives nothing and changes neither state nor memory
 pub event-stays : (s : Model) (m t : List ℕ) → Stays s m (eventOf s m t)
@@ -54,7 +54,7 @@ event-stays s m t = by (checkOf s (length m))
   where
     by-read : (r : Read) → Stays s m (onRead r s m)
     by-read (Whole e n) = stays s m e
-    by-read (Refused r) = unchanged s m _
+    by-read (Refused r place) = unchanged s m _
 
     by : (v : Verdict) → Stays s m (eventOnVerdict v s m t)
     by Passed = by-read (readOf (partOf (s .part)) t)

@@ -15,7 +15,7 @@ use Rattle.parts.proofs.NumberLaws.{number-positive}
 use Rattle.trace.specs.declared.read.Read.{Read}
 use Rattle.trace.specs.declared.read.Read.the-variants.{Whole, Refused}
 use Rattle.trace.specs.Read.{readOf}
-use Rattle.trace.proofs.ReadLaws.{taken-within}
+use Rattle.trace.proofs.ReadLaws.{taken-within, place-within}
 use Rattle.chip.specs.Check.{Sound}
 use Rattle.events.specs.declared.event.Answered.{Answered}
 use Rattle.events.specs.Event.{advanceOf}
@@ -47,12 +47,12 @@ module _ (p : Part) (t : List ℕ) (q : ℕ) (goal : Final) (c : ℕ) (s : Progr
   module _ (more : s .count < q) (inside : s .offset < length t) where
     went-by : (r : Read) → readOf p (drop (s .offset) t) ≡ r
         → Went p t q goal (s .count) m (otherOf r (s .model) m (s .offset)) (otherNoted r (s .model) m (s .count) buf)
-    went-by (Refused r) k =
+    went-by (Refused r place) k =
         record {
           sound = h .sound;
           part = h .part;
-          within = h .within;
-          over = λ z. sym (left-unread t q (s .count) (s .offset) (s .model) m buf (h .sound) more inside r (rw (h .part) at k)) ∙ h .left;
+          within = omega (arith, rw k at (place-within p (drop (s .offset) t)), length-drop (s .offset) t);
+          over = λ z. sym (left-unread t q (s .count) (s .offset) (s .model) m buf (h .sound) more inside r place (rw (h .part) at k)) ∙ h .left;
           left = λ z. absurd (number-positive r z);
         }
     went-by (Whole e n) k = by (eqb (a .number) 0) refl

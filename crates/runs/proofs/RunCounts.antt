@@ -25,7 +25,7 @@ one-more t r a n l some k =
 loop-counted : (q : ℕ) (t : List ℕ) (s : Model) (m : List ℕ) → Counted (length t) (loopOf q t s m)
 loop-counted =
     loop-induction (λ q t s m r. Counted (length t) r)
-    (λ q n t s m e. record { answered = refl; within = omega arith })
+    (λ q n place t s m e. record { answered = refl; within = omega arith })
     (λ q t s m some none r k. one-more t r _ (taken t) (length-positive (getD t 0 0)) some k)
 
 pub run-counted : (q : ℕ) (t : List ℕ) (s : Model) (m : List ℕ) → Counted (length t) (runOf q t s m)

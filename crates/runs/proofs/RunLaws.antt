@@ -19,7 +19,7 @@ use Rattle.parts.proofs.NumberLaws.{number-positive}
 use Rattle.trace.specs.declared.event.Event.{Event}
 use Rattle.trace.specs.declared.read.Read.{Read}
 use Rattle.trace.specs.declared.read.Read.the-variants.{Whole, Refused}
-use Rattle.trace.specs.Read.{eventLength, readOf}
+use Rattle.trace.specs.Read.{eventLength, readOf, placeOf}
 use Rattle.events.specs.declared.event.Answered.{Answered}
 use Rattle.chip.specs.declared.model.Model.{Model}
 use Rattle.events.specs.Event.{Outcome, advanceOf}
@@ -28,12 +28,16 @@ use Rattle.events.proofs.Stays.{stays}
 use Rattle.samples.proofs.SamplesLaws.{tail-part}
 use Rattle.runs.specs.declared.run.Ran.{Ran}
 use Rattle.runs.specs.Event.{eventOf}
-use Rattle.runs.specs.Run.{Run, ran, ranOf, stop, after, loopOf}
+use Rattle.runs.specs.Run.{Run, ran, ranOf, stop, stopAt, after, loopOf}
 use Rattle.runs.proofs.EventLaws.{event-whole, event-refused, event-taken, event-keeps}
 
 -- the bytes that an event at the front takes
 abbrev pub taken : List ℕ → ℕ
 taken t = eventLength (getD t 0 0)
+
+-- where the reader points, if it refuses the event at the front
+abbrev pub fault : Model → List ℕ → ℕ
+fault s t = placeOf (readOf (partOf (s .part)) t)
 
 module _ (t : List ℕ) (s : Model) (m : List ℕ) where
   -- at the end of the trace
@@ -44,7 +48,7 @@ module _ (t : List ℕ) (s : Model) (m : List ℕ) where
 
   -- at a refused event
   pub loop-refused : (q : ℕ) → (length t ≡ 0 → ⊥) → (eventOf s m t .result .number ≡ 0 → ⊥)
-      → loopOf (suc q) t s m ≡ stop (eventOf s m t .result .number) s m
+      → loopOf (suc q) t s m ≡ stopAt (eventOf s m t .result .number) (fault s t) s m
   unfolding loopOf
   loop-refused q h n = rw (ne-eqb _ _ h, ne-eqb _ _ n)
 
@@ -57,21 +61,21 @@ module _ (t : List ℕ) (s : Model) (m : List ℕ) where
 
 -- ---- what holds of every run
 
--- a run of q events stops at once, with the number n: no quota, no byte, or a refused event
-pub data Stops (t : List ℕ) (s : Model) (m : List ℕ) : ℕ → ℕ → Type 0 where
-  at-quota : Stops t s m 0 0
-  at-end : {q : ℕ} → length t ≡ 0 → Stops t s m (suc q) 0
-  at-refusal : {q : ℕ} → (length t ≡ 0 → ⊥) → (eventOf s m t .result .number ≡ 0 → ⊥) → Stops t s m (suc q) (eventOf s m t .result .number)
+-- a run of q events stops at once, with the number n, and points at a place: no quota, no byte, or a refused event
+pub data Stops (t : List ℕ) (s : Model) (m : List ℕ) : ℕ → ℕ → ℕ → Type 0 where
+  at-quota : Stops t s m 0 0 0
+  at-end : {q : ℕ} → length t ≡ 0 → Stops t s m (suc q) 0 0
+  at-refusal : {q : ℕ} → (length t ≡ 0 → ⊥) → (eventOf s m t .result .number ≡ 0 → ⊥) → Stops t s m (suc q) (eventOf s m t .result .number) (fault s t)
 
 -- what holds of a run that stops, and of a run with one accepted event more if it holds of the rest
 module _ (P : ℕ → List ℕ → Model → List ℕ → Run → Type 0)
-    (stops : (q n : ℕ) (t : List ℕ) (s : Model) (m : List ℕ) → Stops t s m q n → P q t s m (stop n s m))
+    (stops : (q n place : ℕ) (t : List ℕ) (s : Model) (m : List ℕ) → Stops t s m q n place → P q t s m (stopAt n place s m))
     (goes-on : (q : ℕ) (t : List ℕ) (s : Model) (m : List ℕ) → (length t ≡ 0 → ⊥) → eventOf s m t .result .number ≡ 0 → (r : Run)
     → P q (drop (taken t) t) (eventOf s m t .result .model) (eventOf s m t .memory) r
     → P (suc q) t s m (after (eventOf s m t .result .answer) (taken t) r)) where
   pub loop-induction : (q : ℕ) (t : List ℕ) (s : Model) (m : List ℕ) → P q t s m (loopOf q t s m)
   unfolding loopOf
-  loop-induction zero t s m = stops 0 0 t s m at-quota
+  loop-induction zero t s m = stops 0 0 0 t s m at-quota
   loop-induction (suc q) t s m =
       by (eqb (length t) 0) (eqb (eventOf s m t .result .number) 0) refl refl
       (loop-induction q (drop (taken t) t) (eventOf s m t .result .model) (eventOf s m t .memory))
@@ -81,7 +85,7 @@ module _ (P : ℕ → List ℕ → Model → List ℕ → Run → Type 0)
 
       by : (a b : Bool) → eqb (length t) 0 ≡ a → eqb (eventOf s m t .result .number) 0 ≡ b
           → P q (drop (taken t) t) (eventOf s m t .result .model) (eventOf s m t .memory) next → P (suc q) t s m (loopOf (suc q) t s m)
-      by true b x y k = let z = eqb-true _ _ x in rw (loop-over t s m (suc q) z) (stops (suc q) 0 t s m (at-end z))
+      by true b x y k = let z = eqb-true _ _ x in rw (loop-over t s m (suc q) z) (stops (suc q) 0 0 t s m (at-end z))
       by false true x y k =
           let some = eqb-false _ _ x in
           let none = eqb-true _ _ y in
@@ -89,7 +93,7 @@ module _ (P : ℕ → List ℕ → Model → List ℕ → Run → Type 0)
       by false false x y k =
           let some = eqb-false _ _ x in
           let not-0 = eqb-false _ _ y in
-          rw (loop-refused t s m q some not-0) (stops (suc q) _ t s m (at-refusal some not-0))
+          rw (loop-refused t s m q some not-0) (stops (suc q) _ _ t s m (at-refusal some not-0))
 
 -- what is read there, of the part of the state
 pub read-on : (p : Part) (s : Model) (t : List ℕ) (o : ℕ) {r : Read} → p ≡ partOf (s .part) → readOf p (take (length t - o) (drop o t)) ≡ r
@@ -119,15 +123,18 @@ module _ (t : List ℕ) (q c o : ℕ) (s : Model) (m buf : List ℕ) where
   abbrev pub left : Run
   left = loopOf (q - c) (drop o t) s m
 
-  stopped : (n : ℕ) → left ≡ stop n s m → final c o buf left ≡ finalOf (ran n s c o) m buf
-  stopped n e = rw (e, add-zero c, add-zero o)
+  stopped : (n place : ℕ) → left ≡ stopAt n place s m → final c o buf left ≡ finalOf (ran n s c (o + place)) m buf
+  stopped n place e = rw (e, add-zero c)
+
+  stopped-here : (n : ℕ) → left ≡ stop n s m → final c o buf left ≡ finalOf (ran n s c o) m buf
+  stopped-here n e = rw (add-zero o) at (stopped n 0 e)
 
   pub left-used : q ≤ c → final c o buf left ≡ finalOf (ran 0 s c o) m buf
   unfolding loopOf
-  left-used h = let e : q - c ≡ 0 = omega arith in stopped 0 (rw e)
+  left-used h = let e : q - c ≡ 0 = omega arith in stopped-here 0 (rw e)
 
   pub left-over : length t ≤ o → final c o buf left ≡ finalOf (ran 0 s c o) m buf
-  left-over h = stopped 0 (loop-over (drop o t) s m (q - c) (rw length-drop (omega arith)))
+  left-over h = stopped-here 0 (loop-over (drop o t) s m (q - c) (rw length-drop (omega arith)))
 
   module _ (more : c < q) (inside : o < length t) where
     some : length (drop o t) ≡ 0 → ⊥
@@ -137,8 +144,8 @@ module _ (t : List ℕ) (q c o : ℕ) (s : Model) (m buf : List ℕ) where
     one-more = omega arith
 
     pub left-refused : (eventOf s m (drop o t) .result .number ≡ 0 → ⊥)
-        → final c o buf left ≡ finalOf (ran (eventOf s m (drop o t) .result .number) s c o) m buf
-    left-refused n = stopped _ (rw one-more (loop-refused (drop o t) s m (q - (c + 1)) some n))
+        → final c o buf left ≡ finalOf (ran (eventOf s m (drop o t) .result .number) s c (o + fault s (drop o t))) m buf
+    left-refused n = stopped _ _ (rw one-more (loop-refused (drop o t) s m (q - (c + 1)) some n))
 
     pub left-accepted : eventOf s m (drop o t) .result .number ≡ 0
         → final c o buf left
@@ -150,19 +157,20 @@ module _ (t : List ℕ) (q c o : ℕ) (s : Model) (m buf : List ℕ) where
 -- ---- the same by what the reader finds, on a state and a memory that passed
 
 module _ (t : List ℕ) (q c o : ℕ) (s : Model) (m buf : List ℕ) (sound : Sound s m) (more : c < q) (inside : o < length t) where
-  pub left-unread : (r : Refusal) → readOf (partOf (s .part)) (drop o t) ≡ Refused r
-      → final c o buf (left t q c o s m buf) ≡ finalOf (ran (refusalNumber r) s c o) m buf
-  left-unread r h =
-      let e = event-refused s m (drop o t) sound r h in
+  pub left-unread : (r : Refusal) (place : ℕ) → readOf (partOf (s .part)) (drop o t) ≡ Refused r place
+      → final c o buf (left t q c o s m buf) ≡ finalOf (ran (refusalNumber r) s c (o + place)) m buf
+  left-unread r place h =
+      let e = event-refused s m (drop o t) sound r place h in
       let k : eventOf s m (drop o t) .result .number ≡ refusalNumber r = ap (λ (x : Outcome). x .result .number) e in
-      left-refused t q c o s m buf more inside (λ z. number-positive r (sym k ∙ z)) ∙ ap (λ (n : ℕ). finalOf (ran n s c o) m buf) k
+      left-refused t q c o s m buf more inside (λ z. number-positive r (sym k ∙ z))
+      ∙ rw h (ap (λ (n : ℕ). finalOf (ran n s c (o + place)) m buf) k)
 
   -- a whole event, with what carrying it out gave: a result r and a memory w
   module _ (e : Event) (n : ℕ) (h : readOf (partOf (s .part)) (drop o t) ≡ Whole e n)
       (r : Answered) (w : List ℕ) (result : r ≡ advanceOf s m e .result) (memory : w ≡ advanceOf s m e .memory) where
     pub left-unmoved : (r .number ≡ 0 → ⊥) → final c o buf (left t q c o s m buf) ≡ finalOf (ran (r .number) s c o) w buf
     left-unmoved z =
-        let f = rw (event-whole s m (drop o t) sound e n h, ← result) at (left-refused t q c o s m buf more inside) in
+        let f = rw (event-whole s m (drop o t) sound e n h, h, ← result, add-zero o) at (left-refused t q c o s m buf more inside) in
         let k = rw (← result) at (stays s m e .refused-memory) in
         rw (memory, k z) (f z)
 

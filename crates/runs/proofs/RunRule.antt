@@ -12,7 +12,7 @@ use Rattle.chip.specs.declared.check.Verdict.the-variants.{Passed, Failed}
 use Rattle.chip.specs.declared.model.Model.{Model}
 use Rattle.chip.specs.Check.{checkOf, Sound}
 use Rattle.runs.specs.Event.{eventOf}
-use Rattle.runs.specs.Run.{Run, stop, after, runOnVerdict, loopOf, runOf}
+use Rattle.runs.specs.Run.{Run, stop, stopAt, after, runOnVerdict, loopOf, runOf}
 use Rattle.runs.specs.Rules.{joinedRuns}
 use Rattle.runs.proofs.EventLaws.{event-sound}
 use Rattle.runs.proofs.RunLaws.{taken, loop-over, loop-accepted, Stops, at-quota, at-end, at-refusal, loop-induction}
@@ -26,7 +26,7 @@ rest k t r = loopOf k (drop (r .offset) t) (r .model) (r .memory)
 pub loop-sound : (q : ℕ) (t : List ℕ) (s : Model) (m : List ℕ) → Sound s m → Sound (loopOf q t s m .model) (loopOf q t s m .memory)
 loop-sound =
     loop-induction (λ q t s m r. Sound s m → Sound (r .model) (r .memory))
-    (λ q n t s m e h. h)
+    (λ q n place t s m e h. h)
     (λ q t s m some none r k h. k (event-sound s m t h))
 
 -- ---- the rule
@@ -42,10 +42,10 @@ module _ (k : ℕ) where
   abbrev First : ℕ → List ℕ → Model → List ℕ → Run → Type 0
   First j t s m r = r .number ≡ 0 → loopOf (j + k) t s m ≡ joinedRuns r (rest k t r)
 
-  rule-stops : (j n : ℕ) (t : List ℕ) (s : Model) (m : List ℕ) → Stops t s m j n → First j t s m (stop n s m)
-  rule-stops j n t s m at-quota h = rw zero-add (sym (joined-start s m (loopOf k t s m)))
-  rule-stops j n t s m (at-end {q} z) h = rw (loop-over t s m (suc q + k) z) (sym (joined-start s m _ ∙ loop-over t s m k z))
-  rule-stops j n t s m (at-refusal some not-0) h = absurd (not-0 h)
+  rule-stops : (j n place : ℕ) (t : List ℕ) (s : Model) (m : List ℕ) → Stops t s m j n place → First j t s m (stopAt n place s m)
+  rule-stops j n place t s m at-quota h = rw zero-add (sym (joined-start s m (loopOf k t s m)))
+  rule-stops j n place t s m (at-end {q} z) h = rw (loop-over t s m (suc q + k) z) (sym (joined-start s m _ ∙ loop-over t s m k z))
+  rule-stops j n place t s m (at-refusal some not-0) h = absurd (not-0 h)
 
   rule-goes-on : (j : ℕ) (t : List ℕ) (s : Model) (m : List ℕ) → (length t ≡ 0 → ⊥) → eventOf s m t .result .number ≡ 0 → (r : Run)
       → First j (drop (taken t) t) (eventOf s m t .result .model) (eventOf s m t .memory) r

@@ -153,4 +153,4 @@ here-other p t q goal c r m buf h more = by (readOf p (drop (r .offset) t)) refl
   where
     by : (x : Read) → readOf p (drop (r .offset) t) ≡ x → ReadOtherThanSample x (r .model .bus)
     by (Whole e n) k = next-other (r .model) m (h .sound) (drop (r .offset) t) e n (h .over more) (rw (h .part) at k)
-    by (Refused f) k = tt
+    by (Refused f place) k = tt

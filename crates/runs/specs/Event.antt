@@ -1,5 +1,5 @@
--- One event from the front of any bytes, on any state and memory: numbers 1 to 3 of state and memory, 4 to 6 of the bytes, then the
--- event itself, which gives 7 to 9.
+-- One event from the front of any bytes, on any state and memory: numbers 1 to 3 of state and memory, 4, 5, 6, 10 and 11 of the bytes,
+-- then the event itself, which gives 7 to 9.
 use Prim.Native.Nat.{ℕ}
 use mathlib.Core.List.{List}
 use lib.ListN.{length}
@@ -15,7 +15,7 @@ use Rattle.events.specs.Event.{Outcome, keeping, refused, advanceOf}
 
 abbrev pub onRead : Read → Model → List ℕ → Outcome
 onRead (Whole e n) s m = advanceOf s m e
-onRead (Refused r) s m = keeping m (refused r s)
+onRead (Refused r place) s m = keeping m (refused r s)
 
 -- of a state and a memory that passed
 abbrev pub checkedEvent : Model → List ℕ → List ℕ → Outcome

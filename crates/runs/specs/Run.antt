@@ -5,7 +5,8 @@ use mathlib.Core.List.{List, [], _∷_}
 use lib.Dec.{eqb}
 use lib.ListN.{length, drop, getD}
 use Rattle.parts.specs.Numbers.{refusalNumber}
-use Rattle.trace.specs.Read.{eventLength}
+use Rattle.parts.specs.Table.{partOf}
+use Rattle.trace.specs.Read.{eventLength, readOf, placeOf}
 use Rattle.chip.specs.declared.check.Verdict.{Verdict}
 use Rattle.chip.specs.declared.check.Verdict.the-variants.{Passed, Failed}
 use Rattle.chip.specs.declared.model.Model.{Model}
@@ -13,8 +14,9 @@ use Rattle.chip.specs.Check.{checkOf}
 use Rattle.runs.specs.declared.run.Ran.{Ran}
 use Rattle.runs.specs.Event.{eventOf}
 
--- number or 0, state, how many events were accepted and how many bytes these take (so the offset points at the kind byte of the next
--- one, or is the trace's length), memory, and their answers
+-- number or 0, state, how many events were accepted, the offset, memory, and their answers. The offset is how many bytes the accepted
+-- events take, which is where the kind byte of the next one stands, or the trace's length; with 6, 10 or 11 it is that of the first byte
+-- of the bad field (document 02, ask 1)
 pub record Run : Type 0 where
   pub number : ℕ
   pub model : Model
@@ -29,9 +31,13 @@ ran n s c o = record { number = n; model = s; count = c; offset = o }
 abbrev pub ranOf : Run → Ran
 ranOf r = ran (r .number) (r .model) (r .count) (r .offset)
 
--- a run that stops here
+-- a run that stops here with a number, and points at a place from here on
+abbrev pub stopAt : ℕ → ℕ → Model → List ℕ → Run
+stopAt n place s m = record { number = n; model = s; count = 0; offset = place; memory = m; answers = [] }
+
+-- and one that points here
 abbrev pub stop : ℕ → Model → List ℕ → Run
-stop n s m = record { number = n; model = s; count = 0; offset = 0; memory = m; answers = [] }
+stop n s m = stopAt n 0 s m
 
 -- a run after one accepted event with this answer, which took n bytes
 abbrev pub after : ℕ → ℕ → Run → Run
@@ -45,7 +51,8 @@ after a n r =
       answers = a ∷ r .answers;
     }
 
--- at most `quota` events from the front of t: event's definition, one after the other
+-- at most `quota` events from the front of t: event's definition, one after the other. A refusal points where the reader found the fault;
+-- state and memory passed 1 to 3, so a refusal that is not the reader's is 7, 8 or 9, of an event that was read whole
 unfoldable pub loopOf : ℕ → List ℕ → Model → List ℕ → Run
 loopOf zero t s m = stop 0 s m
 loopOf (suc quota) t s m =
@@ -53,7 +60,7 @@ loopOf (suc quota) t s m =
     (cond (eqb (eventOf s m t .result .number) 0)
     (after (eventOf s m t .result .answer) (eventLength (getD t 0 0))
     (loopOf quota (drop (eventLength (getD t 0 0)) t) (eventOf s m t .result .model) (eventOf s m t .memory)))
-    (stop (eventOf s m t .result .number) s m))
+    (stopAt (eventOf s m t .result .number) (placeOf (readOf (partOf (s .part)) t)) s m))
 
 abbrev pub runOnVerdict : Verdict → ℕ → List ℕ → Model → List ℕ → Run
 runOnVerdict Passed quota t s m = loopOf quota t s m

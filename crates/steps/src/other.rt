@@ -1,16 +1,16 @@
 // One event of a run that is no sample under power.
 ghost use mathlib.Core.Path.{_≡_};
-ghost use Prim.Native.Nat.{ℕ, _≤_};
+ghost use Prim.Native.Nat.{ℕ, _+_, _≤_, _<_};
 ghost use mathlib.Core.List.{List};
 ghost use lib.ListN.{length, drop};
 ghost use Rattle.parts.specs.Table.{partOf};
-ghost use Rattle.trace.specs.Read.{readOf};
+ghost use Rattle.trace.specs.Read.{readOf, placeOf};
 ghost use Rattle.steps.specs.Other.{other, stoppedBy, otherOf, otherNoted, ReadOtherThanSample};
 use chip::model::Model;
 use parts::part::Part;
 use trace::read::Read;
 
-// Number or 0, state, and how many bytes of the trace the accepted events take.
+// Number or 0, state, and the offset: after the event if it is accepted, else where the refusal points.
 pub struct Other {
     pub number: u8,
     pub model: Model,
@@ -27,13 +27,14 @@ fn ended(number: u8, model: Model, offset: usize) -> Other
     }
 }
 
-// The reader's refusal.
+// The reader's refusal leaves with its offset: that of the fault, which is the bad field's first byte or the kind byte.
 fn stopped(read: Read, model: Model, offset: usize) -> Other
+    requires { ⌜ offset + placeOf read < 18446744073709551616 ⌝ }
     ensures { λ r. ⌜ r ≡ stoppedBy read model offset ⌝ }
 {
     match read {
         Read::Whole { event: _, taken: _ } => ended(0, model, offset),
-        Read::Refused { refusal } => ended(refusal.number(), model, offset),
+        Read::Refused { refusal, place } => ended(refusal.number(), model, offset + place),
     }
 }
 

@@ -13,7 +13,7 @@ use Rattle.parts.specs.declared.part.Part.{Part}
 use Rattle.trace.specs.declared.event.Event.{Event}
 use Rattle.trace.specs.declared.event.Event.the-variants.{SpiPowerOn, I2cPowerOn, PowerOff, Sample, Expected}
 use Rattle.trace.specs.declared.read.Read.the-variants.{Whole}
-use Rattle.trace.specs.Event.{sampleLimit, fieldsIn}
+use Rattle.trace.specs.Event.{sampleLimit, sampleIn}
 use Rattle.trace.specs.Read.{startAddress, readOf}
 use Rattle.trace.specs.Sample.{sampleFirst, expectedFirst, staysFirst, firstEvent, NoSample}
 use Rattle.trace.proofs.ReadLaws.{passed, reads-whole}
@@ -34,7 +34,7 @@ sample-read p t h =
     let k : getD t 0 0 ≡ 4 = eqb-true (getD t 0 0) 4 (s .1 .0) in
     let l : 2 ≤ length t = ltb-false (length t) 2 (s .0) in
     reads-whole p t (Sample (getD t 1 0)) 2
-    (record { some = λ z. omega arith; known = rw k; long = rw k l; inside = rw k (s .1 .1); event = rw k; taken = rw k })
+    (record { some = λ z. omega arith; known = rw k; long = rw k l; sample = rw k (s .1 .1); start = rw k; expected = rw k; event = rw k; taken = rw k })
 
 expected-long : (a : ℕ) (t : List ℕ) → expectedFirst a t ≡ true → 2 ≤ length t
 expected-long a t h = ltb-false (length t) 2 (tests (ltb (length t) 2) (eqb (getD t 0 0) 5) (eqb (getD t 1 0) a) h .0)
@@ -46,7 +46,7 @@ expected-at p t a l h =
     let v : getD t 1 0 ≡ a = eqb-true (getD t 1 0) a (s .1 .1) in
     let n : 2 ≤ length t = ltb-false (length t) 2 (s .0) in
     reads-whole p t (Expected a) 2
-    (record { some = λ z. omega arith; known = rw k; long = rw k n; inside = rw (k, v) (lt-ltb a 3 l); event = rw (k, v); taken = rw k })
+    (record { some = λ z. omega arith; known = rw k; long = rw k n; sample = rw k; start = rw k; expected = rw (k, v) (lt-ltb a 3 l); event = rw (k, v); taken = rw k })
 
 -- the two tests as one, by the kind
 either : (b : Bool) → cond b true false ≡ b
@@ -92,7 +92,7 @@ stays-read p t a l h =
 
 -- by the tests for the kinds, which choose the event: a sample would be in range
 no-sample-by : (p : Part) (a b c d : Bool) (x y : ℕ) → (d ≡ true → ltb x (sampleLimit (p .bus)) ≡ true → ⊥)
-    → fieldsIn p (cond a (SpiPowerOn x) (cond b (I2cPowerOn x y) (cond c PowerOff (cond d (Sample x) (Expected x))))) ≡ true
+    → sampleIn p (cond a (SpiPowerOn x) (cond b (I2cPowerOn x y) (cond c PowerOff (cond d (Sample x) (Expected x))))) ≡ true
     → NoSample (cond a (SpiPowerOn x) (cond b (I2cPowerOn x y) (cond c PowerOff (cond d (Sample x) (Expected x)))))
 no-sample-by p true b c d x y n f = tt
 no-sample-by p false true c d x y n f = tt
@@ -105,7 +105,7 @@ no-sample p t e n z h =
     let s = passed p t e n h in
     let k : ℕ = getD t 0 0 in
     rw (s .event) at
-    (no-sample-by p (eqb k 1) (eqb k 2) (eqb k 3) (eqb k 4) (getD t 1 0) (startAddress (getD t 2 0) (getD t 3 0) (getD t 4 0)) none (s .inside))
+    (no-sample-by p (eqb k 1) (eqb k 2) (eqb k 3) (eqb k 4) (getD t 1 0) (startAddress (getD t 2 0) (getD t 3 0) (getD t 4 0)) none (s .sample))
   where
     none : eqb (getD t 0 0) 4 ≡ true → ltb (getD t 1 0) (sampleLimit (p .bus)) ≡ true → ⊥
     none x y =

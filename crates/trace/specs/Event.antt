@@ -1,6 +1,6 @@
 -- What the fields of an event may be.
 use Prim.Native.Nat.{ℕ}
-use mathlib.Core.Bool.{Bool, true, _&&_}
+use mathlib.Core.Bool.{Bool, true}
 use lib.Dec.{ltb}
 use Rattle.parts.specs.declared.part.Bus.{Bus}
 use Rattle.parts.specs.declared.part.Bus.the-variants.{Spi, I2c}
@@ -13,10 +13,26 @@ abbrev pub sampleLimit : Bus → ℕ
 sampleLimit Spi = 32
 sampleLimit I2c = 8
 
--- the test of number 6: a sample below its limit, a start address below the size, an expected answer of at most 2
-abbrev pub fieldsIn : Part → Event → Bool
-fieldsIn p (SpiPowerOn x) = ltb x (sampleLimit (p .bus))
-fieldsIn p (I2cPowerOn x a) = ltb x (sampleLimit (p .bus)) && ltb a (p .size)
-fieldsIn p PowerOff = true
-fieldsIn p (Sample x) = ltb x (sampleLimit (p .bus))
-fieldsIn p (Expected v) = ltb v 3
+-- the tests of the fields, each passed by an event that has no such field. Number 6: the sample lies below its limit
+abbrev pub sampleIn : Part → Event → Bool
+sampleIn p (SpiPowerOn x) = ltb x (sampleLimit (p .bus))
+sampleIn p (I2cPowerOn x a) = ltb x (sampleLimit (p .bus))
+sampleIn p PowerOff = true
+sampleIn p (Sample x) = ltb x (sampleLimit (p .bus))
+sampleIn p (Expected v) = true
+
+-- number 10: the start address lies below the size
+abbrev pub startIn : Part → Event → Bool
+startIn p (SpiPowerOn x) = true
+startIn p (I2cPowerOn x a) = ltb a (p .size)
+startIn p PowerOff = true
+startIn p (Sample x) = true
+startIn p (Expected v) = true
+
+-- number 11: the expected answer is at most 2
+abbrev pub expectedIn : Event → Bool
+expectedIn (SpiPowerOn x) = true
+expectedIn (I2cPowerOn x a) = true
+expectedIn PowerOff = true
+expectedIn (Sample x) = true
+expectedIn (Expected v) = ltb v 3

@@ -2,7 +2,7 @@
 ghost use mathlib.Core.Path.{_≡_};
 ghost use Prim.Native.Nat.{_≤_};
 ghost use lib.ListN.{length};
-ghost use Rattle.trace.specs.Read.{knownKind, eventLength, startAddress, parsedEvent, readOf};
+ghost use Rattle.trace.specs.Read.{knownKind, eventLength, startAddress, parsedEvent, fieldsRead, readOf};
 use crate::event::Event;
 use parts::part::Bus;
 use parts::part::Part;
@@ -11,7 +11,8 @@ use parts::refusal::Refusal;
 pub enum Read {
     // a whole event and how many bytes it takes
     Whole { event: Event, taken: usize },
-    Refused { refusal: Refusal },
+    // why not, and how far after the kind byte the fault lies
+    Refused { refusal: Refusal, place: usize },
 }
 
 // Whether an event of this kind can happen on the bus.
@@ -63,31 +64,47 @@ fn parsed_event(kind: u8, bytes: &[u8]) -> Event
     }
 }
 
-// Refused with 4, 5 or 6, tested in that order; bytes after the event are ignored.
-pub fn read_event(part: Part, bytes: &[u8]) -> Read
-    ensures { λ r. ⌜ r ≡ readOf part (now (bytes .entry)) ⌝ }
+// An event whose bytes are all there, or refused with 6, 10 or 11, tested in that order, at the first byte of the bad field.
+fn read_fields(part: Part, event: Event, taken: usize) -> Read
+    ensures { λ r. ⌜ r ≡ fieldsRead part event taken ⌝ }
 {
-    if bytes.len() == 0 {
-        return refused(Refusal::Truncated);
+    let sample = crate::event::sample_in(part, event);
+    let start = crate::event::start_in(part, event);
+    let expected = crate::event::expected_in(event);
+    if !sample {
+        return refused(Refusal::SampleRange, 1);
     }
-    let kind = bytes[0];
-    let bus = part.bus;
-    if !known_kind(bus, kind) {
-        return refused(Refusal::UnknownKind);
+    if !start {
+        return refused(Refusal::StartRange, 2);
     }
-    let taken = event_length(kind);
-    if bytes.len() < taken {
-        return refused(Refusal::Truncated);
-    }
-    let event = parsed_event(kind, bytes);
-    if !crate::event::fields_in(part, event) {
-        return refused(Refusal::FieldRange);
+    if !expected {
+        return refused(Refusal::ExpectedRange, 1);
     }
     Read::Whole { event, taken }
 }
 
-fn refused(refusal: Refusal) -> Read
-    ensures { λ r. ⌜ r ≡ Read.Refused refusal ⌝ }
+// Refused with 4 or 5, tested in that order, at the kind byte; else by the fields. Bytes after the event are ignored.
+pub fn read_event(part: Part, bytes: &[u8]) -> Read
+    ensures { λ r. ⌜ r ≡ readOf part (now (bytes .entry)) ⌝ }
 {
-    Read::Refused { refusal }
+    if bytes.len() == 0 {
+        return refused(Refusal::Truncated, 0);
+    }
+    let kind = bytes[0];
+    let bus = part.bus;
+    if !known_kind(bus, kind) {
+        return refused(Refusal::UnknownKind, 0);
+    }
+    let taken = event_length(kind);
+    if bytes.len() < taken {
+        return refused(Refusal::Truncated, 0);
+    }
+    let event = parsed_event(kind, bytes);
+    read_fields(part, event, taken)
+}
+
+fn refused(refusal: Refusal, place: usize) -> Read
+    ensures { λ r. ⌜ r ≡ Read.Refused refusal place ⌝ }
+{
+    Read::Refused { refusal, place }
 }

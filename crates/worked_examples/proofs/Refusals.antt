@@ -1,4 +1,4 @@
--- Refused events and makings give what document 01 says, in full. Computed. Assumes nothing.
+-- Refused events and makings give what the papers say, in full, and runs stop and point where they say. Computed. Assumes nothing.
 use Prim.Native.Nat.{ℕ}
 use mathlib.Core.Path.{_≡_, refl, ap, _∙_}
 use mathlib.Core.List.{List, [], _∷_, map}
@@ -9,8 +9,8 @@ use Rattle.chip.specs.Model.{unpowered}
 use Rattle.parts.specs.Status.{cleared}
 use Rattle.model.specs.declared.make.Made.{Made}
 use Rattle.model.specs.Make.{makeOf}
-use Rattle.worked_examples.specs.Cases.{Every}
-use Rattle.worked_examples.specs.Refusals.{Refusal, answerTo, EventRefused, RunRefused, refusals, outOfRange, otherKinds, emptyEvents, Making, MakingRefused, refusedMakings}
+use Rattle.worked_examples.specs.Cases.{Every, madeOf}
+use Rattle.worked_examples.specs.Refusals.{Refusal, answerTo, EventRefused, RunRefused, refusals, outOfRange, otherKinds, emptyEvents, Making, MakingRefused, refusedMakings, Stopped, RunStopped, stoppedRuns}
 use Rattle.worked_examples.proofs.Trail.{Done, outcome, unwritten, eventBy, event-by, Trail, runFrom, stopBy, loopBy, runBy, run-by}
 
 -- two lists with the same entries
@@ -73,7 +73,7 @@ abbrev runGiven : (ℕ → ℕ) → Refusal → Trail
 runGiven g x = runBy 1 (x .size) (x .event) (x .model) g
 
 abbrev runWanted : Refusal → Trail
-runWanted x = stopBy (x .number) (x .model)
+runWanted x = stopBy (x .number) (x .place) (x .model)
 
 runs-refused : (xs : List Refusal) → ((g : ℕ → ℕ) → map (runGiven g) xs ≡ map runWanted xs) → Every RunRefused xs
 runs-refused [] h = tt
@@ -86,9 +86,43 @@ runs-tested : (g : ℕ → ℕ) → map (runGiven g) refusals ≡ map runWanted 
 unfolding refusals checkOf readOf makeOf loopBy
 runs-tested g = refl
 
--- a run of a refused event alone stops with its number, nothing accepted
+-- a run of a refused event alone stops with its number and points at its place, nothing accepted
 pub refused-runs : Every RunRefused refusals
 refused-runs = runs-refused refusals runs-tested
+
+-- ---- runs of several
+
+-- number, count and offset
+pub record Figures : Type 0 where
+  pub number : ℕ
+  pub count : ℕ
+  pub offset : ℕ
+
+abbrev figuresGiven : (ℕ → ℕ) → Stopped → Figures
+figuresGiven g x =
+    let r = runBy 8 (x .size) (x .trace) (madeOf (x .part) 0 0) g in
+    record { number = r .number; count = r .count; offset = r .offset }
+
+abbrev figuresWanted : Stopped → Figures
+figuresWanted x = record { number = x .number; count = x .count; offset = x .offset }
+
+runs-stop : (xs : List Stopped) → ((g : ℕ → ℕ) → map (figuresGiven g) xs ≡ map figuresWanted xs) → Every RunStopped xs
+runs-stop [] h = tt
+runs-stop (x ∷ xs) h = (
+  λ m e.
+      let f = head-same (h (λ a. getD m a 0)) in
+      let r = run-by 8 (x .size) (x .trace) (madeOf (x .part) 0 0) m (λ a. getD m a 0) e (λ a. refl) in
+      rw r (ap (λ (k : Figures). k .number) f, (ap (λ (k : Figures). k .count) f, ap (λ (k : Figures). k .offset) f)),
+  runs-stop xs (λ g. tail-same (h g)),
+)
+
+stops-tested : (g : ℕ → ℕ) → map (figuresGiven g) stoppedRuns ≡ map figuresWanted stoppedRuns
+unfolding stoppedRuns checkOf readOf makeOf loopBy
+stops-tested g = refl
+
+-- each run of the list gives its number, count and offset
+pub stopped-runs : Every RunStopped stoppedRuns
+stopped-runs = runs-stop stoppedRuns stops-tested
 
 -- ---- makings
 

@@ -55,8 +55,8 @@ use Rattle.events.specs.Event.{Outcome, refused, onUnpowered, spiSampled, i2cSa
 use Rattle.runs.specs.Event as Events
 use Rattle.runs.specs.Event.{eventOf}
 use Rattle.runs.specs.Run as Runs
-use Rattle.runs.specs.Run.{Run, stop, after, loopOf, runOf}
-use Rattle.runs.proofs.RunLaws.{taken, Stops, at-quota, at-end, at-refusal, loop-induction}
+use Rattle.runs.specs.Run.{Run, stopAt, after, loopOf, runOf}
+use Rattle.runs.proofs.RunLaws.{taken, fault, Stops, at-quota, at-end, at-refusal, loop-induction}
 use Rattle.worked_examples.specs.Cases.{Cell, cell, withCells}
 
 -- ---- bytes by address
@@ -217,7 +217,7 @@ advanceBy (I2cOn x) p s f e = onI2cBy p s x f e
 
 abbrev readBy : Read → Model → (ℕ → ℕ) → Done
 readBy (Whole e n) s f = advanceBy (s .bus) (partOf (s .part)) s f e
-readBy (Refused r) s f = unwritten (refused r s)
+readBy (Refused r place) s f = unwritten (refused r s)
 
 abbrev verdictBy : Verdict → Model → (ℕ → ℕ) → List ℕ → Done
 verdictBy Passed s f t = readBy (readOf (partOf (s .part)) t) s f
@@ -254,7 +254,7 @@ module _ (m : List ℕ) (f : ℕ → ℕ) (h : Reads m f) where
   read-by : (r : Read) (s : Model) → Events.onRead r s m ≡ outcome m (readBy r s f)
   unfolding advanceOf
   read-by (Whole e n) s = advance-by (s .bus) (partOf (s .part)) s e
-  read-by (Refused r) s = refl
+  read-by (Refused r place) s = refl
 
   verdict-by : (v : Verdict) (s : Model) (t : List ℕ) → Events.eventOnVerdict v s m t ≡ outcome m (verdictBy v s f t)
   verdict-by Passed s t = read-by (readOf (partOf (s .part)) t) s
@@ -287,8 +287,8 @@ runFrom m r =
       answers = r .answers;
     }
 
-abbrev pub stopBy : ℕ → Model → Trail
-stopBy n s = record { number = n; model = s; count = 0; offset = 0; writes = []; answers = [] }
+abbrev pub stopBy : ℕ → ℕ → Model → Trail
+stopBy n place s = record { number = n; model = s; count = 0; offset = place; writes = []; answers = [] }
 
 abbrev cellsOf : Write → List Cell
 cellsOf Nothing = []
@@ -306,18 +306,18 @@ afterBy a n w r =
     }
 
 unfoldable pub loopBy : ℕ → ℕ → List ℕ → Model → (ℕ → ℕ) → Trail
-loopBy zero size t s f = stopBy 0 s
+loopBy zero size t s f = stopBy 0 0 s
 loopBy (suc quota) size t s f =
     let d = eventBy size s f t in
-    cond (eqb (length t) 0) (stopBy 0 s)
+    cond (eqb (length t) 0) (stopBy 0 0 s)
     (cond (eqb (d .result .number) 0)
     (afterBy (d .result .answer) (eventLength (getD t 0 0)) (d .write)
     (loopBy quota size (drop (eventLength (getD t 0 0)) t) (d .result .model) (updated size (d .write) f)))
-    (stopBy (d .result .number) s))
+    (stopBy (d .result .number) (fault s t) s))
 
 abbrev runVerdictBy : Verdict → ℕ → ℕ → List ℕ → Model → (ℕ → ℕ) → Trail
 runVerdictBy Passed quota size t s f = loopBy quota size t s f
-runVerdictBy (Failed r) quota size t s f = stopBy (refusalNumber r) s
+runVerdictBy (Failed r) quota size t s f = stopBy (refusalNumber r) 0 s
 
 abbrev pub runBy : ℕ → ℕ → List ℕ → Model → (ℕ → ℕ) → Trail
 runBy quota size t s f = runVerdictBy (checkOf s size) quota size t s f
@@ -330,11 +330,11 @@ after-by a n m (Byte i v) r = refl
 abbrev By : ℕ → List ℕ → Model → List ℕ → Run → Type 0
 By quota t s m r = (size : ℕ) (f : ℕ → ℕ) → length m ≡ size → Reads m f → r ≡ runFrom m (loopBy quota size t s f)
 
-stops-by : (quota n : ℕ) (t : List ℕ) (s : Model) (m : List ℕ) → Stops t s m quota n → By quota t s m (stop n s m)
+stops-by : (quota n place : ℕ) (t : List ℕ) (s : Model) (m : List ℕ) → Stops t s m quota n place → By quota t s m (stopAt n place s m)
 unfolding loopBy
-stops-by quota n t s m at-quota size f e h = refl
-stops-by quota n t s m (at-end z) size f e h = rw (eq-eqb _ _ z)
-stops-by quota n t s m (at-refusal some not-0) size f e h =
+stops-by quota n place t s m at-quota size f e h = refl
+stops-by quota n place t s m (at-end z) size f e h = rw (eq-eqb _ _ z)
+stops-by quota n place t s m (at-refusal some not-0) size f e h =
     let v = event-by m f h size s t e in
     rw (v, ne-eqb _ _ some, ne-eqb _ _ (rw v at not-0))
 

@@ -1,5 +1,6 @@
--- Single events and makings that are refused: document 01's table 'Numbers given back', each number alone and with a reason for a later
--- number beside it. No event can have the reasons of both 7 and 8 (no power, power is on) or of both 8 and 9 (01 or 02, 05).
+-- Single events and makings that are refused: document 01's table 'Numbers given back' with 10 and 11 of document 02, each number alone
+-- and with a reason for a later number beside it. No event can have the reasons of both 10 and 11 (02, 05), of both 10 and 7 (02 needs no
+-- power), of both 7 and 8 (no power, power is on) or of both 8 and 9 (01 or 02, 05).
 use Prim.Native.Nat.{ℕ, zero, suc, _+_}
 use mathlib.Core.Path.{_≡_}
 use mathlib.Core.Bool.{true, false}
@@ -24,7 +25,7 @@ use Rattle.chip.specs.Model.{modelOf, unpowered}
 use Rattle.events.specs.declared.event.Answered.{Answered}
 use Rattle.events.specs.Event.{keeping}
 use Rattle.runs.specs.Event.{eventOf}
-use Rattle.runs.specs.Run.{stop, runOf}
+use Rattle.runs.specs.Run.{stopAt, runOf}
 use Rattle.model.specs.Make.{makeOf}
 use Rattle.worked_examples.specs.Cases.{madeOf}
 
@@ -34,9 +35,16 @@ pub record Refusal : Type 0 where
   pub size : ℕ
   pub event : List ℕ
   pub number : ℕ
+  -- where a run points, counted from the kind byte
+  pub place : ℕ
 
+-- at the kind byte
 abbrev pub refusal : Model → ℕ → List ℕ → ℕ → Refusal
-refusal s size e n = record { model = s; size = size; event = e; number = n }
+refusal s size e n = record { model = s; size = size; event = e; number = n; place = 0 }
+
+-- at a field
+abbrev pub badField : Model → ℕ → List ℕ → ℕ → ℕ → Refusal
+badField s size e n place = record { model = s; size = size; event = e; number = n; place = place }
 
 -- the number, answer 2 and the given state
 abbrev pub answerTo : Refusal → Answered
@@ -46,9 +54,9 @@ answerTo x = record { number = x .number; answer = 2; model = x .model }
 abbrev pub EventRefused : Refusal → Type 0
 EventRefused x = (m : List ℕ) → length m ≡ x .size → eventOf (x .model) m (x .event) ≡ keeping m (answerTo x)
 
--- and a run of it alone stops with the number, state and memory as they were and nothing accepted
+-- and a run of it alone stops with the number and points at the place, state and memory as they were and nothing accepted
 abbrev pub RunRefused : Refusal → Type 0
-RunRefused x = (m : List ℕ) → length m ≡ x .size → runOf 1 (x .event) (x .model) m ≡ stop (x .number) (x .model) m
+RunRefused x = (m : List ℕ) → length m ≡ x .size → runOf 1 (x .event) (x .model) m ≡ stopAt (x .number) (x .place) (x .model) m
 
 -- ---- the states
 
@@ -124,18 +132,32 @@ refusals =
     ∷ refusal off 4096 (2 ∷ 3 ∷ 0 ∷ 0 ∷ 0 ∷ []) 4
     ∷ refusal off3 8192 (1 ∷ 3 ∷ []) 4
     ∷ refusal off 4096 (2 ∷ []) 4
-    -- 5: no body, a start address cut short; with 6: a sample out of range before the end
+    -- 5: no body, a start address cut short; with 6: a sample out of range before the end; with 10: an address past the size,
+    -- whatever its last byte
     ∷ refusal off 4096 (1 ∷ []) 5
     ∷ refusal off3 8192 (2 ∷ 3 ∷ 0 ∷ 0 ∷ []) 5
     ∷ refusal off3 8192 (2 ∷ 8 ∷ 0 ∷ 0 ∷ []) 5
-    -- 6: samples of 32 and 8, a start address of the size, an expected answer of 3; with 7: no power; with 8: power is on
-    ∷ refusal on 4096 (4 ∷ 32 ∷ []) 6
-    ∷ refusal off 4096 (1 ∷ 32 ∷ []) 6
-    ∷ refusal off3 8192 (2 ∷ 8 ∷ 0 ∷ 0 ∷ 0 ∷ []) 6
-    ∷ refusal off3 8192 (2 ∷ 3 ∷ 0 ∷ 0x20 ∷ 0 ∷ []) 6
-    ∷ refusal on 4096 (5 ∷ 3 ∷ []) 6
-    ∷ refusal off 4096 (4 ∷ 32 ∷ []) 6
-    ∷ refusal on 4096 (1 ∷ 32 ∷ []) 6
+    ∷ refusal off3 8192 (2 ∷ 3 ∷ 0xff ∷ 0xff ∷ []) 5
+    -- 6: samples of 32 and 8, and of 255; with 10: a start address of the size; with 7: no power; with 8: power is on
+    ∷ badField on 4096 (4 ∷ 32 ∷ []) 6 1
+    ∷ badField off 4096 (1 ∷ 32 ∷ []) 6 1
+    ∷ badField off3 8192 (2 ∷ 8 ∷ 0 ∷ 0 ∷ 0 ∷ []) 6 1
+    ∷ badField (onI2c 3 cleared 0) 8192 (4 ∷ 8 ∷ []) 6 1
+    ∷ badField on 4096 (4 ∷ 255 ∷ []) 6 1
+    ∷ badField off3 8192 (2 ∷ 8 ∷ 0 ∷ 0x20 ∷ 0 ∷ []) 6 1
+    ∷ badField off3 8192 (2 ∷ 255 ∷ 255 ∷ 255 ∷ 255 ∷ []) 6 1
+    ∷ badField off 4096 (4 ∷ 32 ∷ []) 6 1
+    ∷ badField on 4096 (1 ∷ 32 ∷ []) 6 1
+    -- 10: a start address of the size, on both parts, and the largest there is; with 8: power is on
+    ∷ badField off3 8192 (2 ∷ 3 ∷ 0 ∷ 0x20 ∷ 0 ∷ []) 10 2
+    ∷ badField (unpowered 4 0 cleared) 131072 (2 ∷ 3 ∷ 2 ∷ 0 ∷ 0 ∷ []) 10 2
+    ∷ badField off3 8192 (2 ∷ 7 ∷ 255 ∷ 255 ∷ 255 ∷ []) 10 2
+    ∷ badField (onI2c 3 cleared 0) 8192 (2 ∷ 3 ∷ 0 ∷ 0x20 ∷ 0 ∷ []) 10 2
+    -- 11: an expected answer of 3 or more on either bus, which is never the present one, so 9 would hold too; with 7: no power
+    ∷ badField on 4096 (5 ∷ 3 ∷ []) 11 1
+    ∷ badField (onI2c 3 cleared 0) 8192 (5 ∷ 3 ∷ []) 11 1
+    ∷ badField on 4096 (5 ∷ 255 ∷ []) 11 1
+    ∷ badField off 4096 (5 ∷ 3 ∷ []) 11 1
     -- 7: 03, 04 and 05 without power; with 9: a low is expected
     ∷ refusal off 4096 (3 ∷ []) 7
     ∷ refusal off 4096 (4 ∷ 25 ∷ []) 7
@@ -212,4 +234,41 @@ refusedMakings =
     ∷ making 2 0 8
     ∷ making 3 0 1
     ∷ making 4 0 1
+    ∷ []
+
+-- ---- runs with accepted events before the refused one
+
+pub record Stopped : Type 0 where
+  pub part : ℕ
+  pub size : ℕ
+  pub trace : List ℕ
+  pub number : ℕ
+  pub count : ℕ
+  pub offset : ℕ
+
+abbrev pub stopped : ℕ → ℕ → List ℕ → ℕ → ℕ → ℕ → Stopped
+stopped part size t n c o = record { part = part; size = size; trace = t; number = n; count = c; offset = o }
+
+-- number, count and offset of a run on the part just made, pins and bits 0, and every memory of its size; no list below has more events
+abbrev pub RunStopped : Stopped → Type 0
+RunStopped x =
+    (m : List ℕ) → length m ≡ x .size → (runOf 8 (x .trace) (madeOf (x .part) 0 0) m .number ≡ x .number)
+    × ((runOf 8 (x .trace) (madeOf (x .part) 0 0) m .count ≡ x .count) × (runOf 8 (x .trace) (madeOf (x .part) 0 0) m .offset ≡ x .offset))
+
+-- after a power on of two or five bytes, a sample and an expected answer: the bad field's first byte for 6, 10 and 11, the kind byte for
+-- the others, and the trace's length for 0
+unfoldable pub stoppedRuns : List Stopped
+stoppedRuns =
+    stopped 0 4096 (1 ∷ 25 ∷ 4 ∷ 24 ∷ 5 ∷ 2 ∷ 4 ∷ 32 ∷ 3 ∷ []) 6 3 7
+    ∷ stopped 0 4096 (1 ∷ 25 ∷ 4 ∷ 24 ∷ 5 ∷ 2 ∷ 5 ∷ 3 ∷ 3 ∷ []) 11 3 7
+    ∷ stopped 0 4096 (1 ∷ 25 ∷ 4 ∷ 24 ∷ 5 ∷ 2 ∷ 5 ∷ 0 ∷ 3 ∷ []) 9 3 6
+    ∷ stopped 0 4096 (1 ∷ 25 ∷ 4 ∷ 24 ∷ 5 ∷ 2 ∷ 1 ∷ 25 ∷ 3 ∷ []) 8 3 6
+    ∷ stopped 0 4096 (1 ∷ 25 ∷ 4 ∷ 24 ∷ 5 ∷ 2 ∷ 3 ∷ 3 ∷ []) 7 4 7
+    ∷ stopped 0 4096 (1 ∷ 25 ∷ 4 ∷ 24 ∷ 5 ∷ 2 ∷ 4 ∷ []) 5 3 6
+    ∷ stopped 0 4096 (1 ∷ 25 ∷ 4 ∷ 24 ∷ 5 ∷ 2 ∷ 6 ∷ []) 4 3 6
+    ∷ stopped 0 4096 (1 ∷ 25 ∷ 4 ∷ 24 ∷ 5 ∷ 2 ∷ []) 0 3 6
+    ∷ stopped 3 8192 (2 ∷ 3 ∷ 0 ∷ 0x1f ∷ 255 ∷ 3 ∷ 2 ∷ 8 ∷ 0 ∷ 0x20 ∷ 0 ∷ []) 6 2 7
+    ∷ stopped 3 8192 (2 ∷ 3 ∷ 0 ∷ 0x1f ∷ 255 ∷ 3 ∷ 2 ∷ 7 ∷ 0 ∷ 0x20 ∷ 0 ∷ []) 10 2 8
+    ∷ stopped 3 8192 (2 ∷ 3 ∷ 0 ∷ 0x1f ∷ 255 ∷ 2 ∷ 3 ∷ 0 ∷ 0x20 ∷ 0 ∷ []) 10 1 7
+    ∷ stopped 3 8192 (2 ∷ 3 ∷ 0 ∷ 0x1f ∷ 255 ∷ 4 ∷ 2 ∷ 5 ∷ 3 ∷ []) 11 2 8
     ∷ []

@@ -3,11 +3,21 @@ use mathlib.Core.Path.{sym, _∙_}
 use native.Mathlib.Omega.{arith}
 use borrow.Author.Needs.{needs}
 use borrow.Author.Tests.{eq-eqb, ne-eqb}
-use lib.ListN.{length-drop}
-use Rattle.trace.proofs.ReadLaws.{taken-within}
+use lib.ListN.{drop, length-drop}
+use Rattle.trace.proofs.ReadLaws.{taken-within, place-within}
 use Rattle.samples.proofs.SamplesLaws.{tail-part}
 use Rattle.steps.proofs.other.one_other.Statement.{statement}
 use Rattle.steps.proofs.other.one_other.Tie as tie
+
+-- where the reader's refusal points lies within the trace
+stopped-requires : tie.Need-stopped-requires
+stopped-requires c κs =
+    let called = c .before .before in
+    let start = called .before .before .before .before in
+    let a = start .args in
+    let read = rw (tail-part (a .trace .now) (a .offset)) at (called .read-event .ensures) in
+    let within = rw (← read) at (place-within (a .part) (drop (a .offset) (a .trace .now))) in
+    omega (arith, within, length-drop (a .offset) (a .trace .now), start .pre .1, start .good .1 .1 .0 .0)
 
 returns : tie.Need-returns
 returns c =
@@ -60,7 +70,7 @@ one-other-spec =
     (λ c κs. search needs)
     (λ c. search needs)
     (λ c. search needs)
-    (λ c κs. search needs)
+    stopped-requires
     returns
     add-past
     other-event-requires

@@ -1,7 +1,11 @@
--- `stopped` meets its contract. Assumes nothing.
+-- `stopped` meets its contract, by what was read. Assumes nothing.
+use native.Mathlib.Omega.{arith}
 use borrow.Author.Needs.{needs}
 use Rattle.steps.proofs.other.stopped.Statement.{statement}
 use Rattle.steps.proofs.other.stopped.Tie as tie
+
+add-ended : tie.Need-add-ended
+add-ended c = omega (arith, rw (c .before .before .read .given .1) at (c .before .before .before .before .pre))
 
 returns : tie.Need-returns
 returns c = simp (c .ended .ensures, c .before .enum-told .given .1)
@@ -17,6 +21,7 @@ stopped-spec =
     (λ c κs. search needs)
     (λ c. search needs)
     (λ c κs. search needs)
+    add-ended
     (λ c κs. search needs)
     returns
     returns-2)

@@ -1,7 +1,5 @@
--- `read_event` meets its contract, by the four tests in the order of the definition. Assumes nothing.
-use mathlib.Core.Path.{refl, sym}
+-- `read_event` meets its contract, by the tests of kind and length in the order of the definition. Assumes nothing.
 use Rattle.trace.specs.Read.{readOf}
-use Rattle.trace.proofs.ReadLaws.{reads-whole}
 use borrow.Author.Tests.{eq-eqb, le-ltb, lt-ltb, ne-eqb, not-false, not-true}
 use borrow.Author.Needs.{needs}
 use Rattle.trace.proofs.read.read_event.Statement.{statement}
@@ -21,21 +19,11 @@ returns-3 c = simp (c .refused3 .ensures, lt-ltb _ _ (rw (c .before .before .eve
 
 returns-4 : tie.Need-returns-4
 unfolding readOf
-returns-4 c = simp (c .refused4 .ensures, rw (c .before .before .fields-in .ensures, c .before .before .before .parsed-event .ensures) at (not-true (c .before .before .fields-in .result) (c .before .if4 .taken)), le-ltb _ _ (rw (c .before .before .before .before .before .event-length .ensures) at (c .before .before .before .before .if3 .left)), rw (c .before .before .before .before .before .before .before .known-kind .ensures) at (not-false (c .before .before .before .before .before .before .before .known-kind .result) (c .before .before .before .before .before .before .if2 .left)), ne-eqb _ _ (c .before .before .before .before .before .before .before .before .before .if1 .left))
-
-returns-5 : tie.Need-returns-5
-returns-5 c =
-    simp (c .before .before .parsed-event .ensures, c .before .before .before .before .event-length .ensures)
-    (sym
-    (reads-whole _ _ _ _
-    (record {
-      some = c .before .before .before .before .before .before .before .before .if1 .left;
-      known = rw (c .before .before .before .before .before .before .known-kind .ensures) at (not-false (c .before .before .before .before .before .before .known-kind .result) (c .before .before .before .before .before .if2 .left));
-      long = rw (c .before .before .before .before .event-length .ensures) at (c .before .before .before .if3 .left);
-      inside = rw (c .before .fields-in .ensures, c .before .before .parsed-event .ensures) at (not-false (c .before .fields-in .result) (c .if4 .left));
-      event = refl;
-      taken = refl;
-    })))
+returns-4 c =
+    let parsed = c .before in
+    let lengthed = parsed .before .before in
+    let known = lengthed .before .before in
+    simp (c .read-fields .ensures, parsed .parsed-event .ensures, lengthed .event-length .ensures, le-ltb _ _ (rw (lengthed .event-length .ensures) at (parsed .before .if3 .left)), rw (known .known-kind .ensures) at (not-false (known .known-kind .result) (lengthed .before .if2 .left)), ne-eqb _ _ (known .before .before .if1 .left))
 
 pub read-event-spec : {M : Type 1} → statement M
 read-event-spec =
@@ -52,6 +40,4 @@ read-event-spec =
     returns-3
     (λ c κs. search needs)
     (λ c κs. search needs)
-    (λ c κs. search needs)
-    returns-4
-    returns-5)
+    returns-4)
