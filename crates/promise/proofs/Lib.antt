@@ -20,6 +20,7 @@ pub mod SpiAnswersBytes
 pub mod SpiAnswersExample
 pub mod Answers
 pub mod RunEvents
+pub mod Fields
 pub mod PinSamples
 pub mod Selects
 pub mod SelectSteps

@@ -6,6 +6,7 @@ pub mod I2cAnswers
 pub mod SpiAnswers
 pub mod Answers
 pub mod RunEvents
+pub mod Fields
 pub mod Reached
 pub mod Corollaries
 pub mod BitSteps

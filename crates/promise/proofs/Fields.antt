@@ -1,0 +1,300 @@
+-- Which field was wrong and where a run points, by the bytes of the trace: for an event and for a run, on any state and memory, and so
+-- after any events from a making. From what the reader finds, kind by kind, and by what holds of every run. Assumes nothing.
+use Prim.Native.Nat.{ℕ, zero, suc, _+_, _<_, _≤_}
+use mathlib.Core.Path.{_≡_, refl, sym, ap, _∙_}
+use mathlib.Core.Bool.{Bool, true, false, cond, false≢true}
+use mathlib.Core.List.{List, [], _∷_}
+use mathlib.Core.Logic.{_⊎_, inl, inr, ⊎-elim}
+use native.Mathlib.Nat.{zero-add, add-assoc}
+use native.Mathlib.Omega.{arith}
+use lib.Dec.{eqb, ltb}
+use lib.ListN.{length, drop, getD}
+use lib.Seq.{drop-drop}
+use borrow.Author.Tests.{eqb-true, ltb-true, ltb-false, ne-eqb}
+use Rattle.parts.specs.declared.part.Bus.{Bus}
+use Rattle.parts.specs.declared.part.Bus.the-variants.{Spi, I2c}
+use Rattle.parts.specs.declared.part.Part.{Part}
+use Rattle.parts.specs.declared.refusal.Refusal.the-variants as R
+use Rattle.parts.specs.Numbers.{refusalNumber}
+use Rattle.parts.specs.Table.{isSpi, partOf}
+use Rattle.trace.specs.declared.event.Event.{Event}
+use Rattle.trace.specs.declared.read.Read.{Read}
+use Rattle.trace.specs.declared.read.Read.the-variants.{Whole, Refused}
+use Rattle.trace.specs.Event.{sampleLimit}
+use Rattle.trace.specs.Read.{knownKind, eventLength, parsedEvent, fieldsRead, readOf, placeOf}
+use Rattle.chip.specs.declared.check.Verdict.{Verdict}
+use Rattle.chip.specs.declared.check.Verdict.the-variants.{Passed, Failed}
+use Rattle.chip.specs.declared.model.Model.{Model}
+use Rattle.chip.specs.Check.{modelIn, busIn, checkOf, Sound}
+use Rattle.events.specs.Event.{Outcome}
+use Rattle.events.proofs.Done.{Done, refused-with, accepted-as, done}
+use Rattle.runs.specs.Event.{onRead, eventOnVerdict, eventOf}
+use Rattle.runs.specs.Run.{Run, stopAt, after, runOnVerdict, loopOf, runOf}
+use Rattle.runs.proofs.EventLaws.{event-sound, event-stays}
+use Rattle.runs.proofs.RunLaws.{taken, Stops, at-quota, at-end, at-refusal, loop-induction}
+use Rattle.promise.specs.Lists.{modelAfter, memoryAfter}
+use Rattle.promise.specs.Promise.{madeBy}
+use Rattle.promise.specs.Fields.{HasSample, startGiven, BadSample, BadStart, BadExpected, GoodFields, Judged, EventJudged, kindAt, fieldAt, Points, FieldsPromise}
+
+-- ---- what the reader finds
+
+-- with what the bytes are in each case
+data Found (p : Part) (t : List ℕ) : Read → Type 0 where
+  whole : {e : Event} {n : ℕ} → GoodFields p t → Found p t (Whole e n)
+  bad-sample : BadSample p t → Found p t (Refused R.SampleRange 1)
+  bad-start : BadStart p t → Found p t (Refused R.StartRange 2)
+  bad-expected : BadExpected t → Found p t (Refused R.ExpectedRange 1)
+  short : Found p t (Refused R.Truncated 0)
+  unknown : Found p t (Refused R.UnknownKind 0)
+
+limit-is : (b : Bus) → cond (isSpi b) 32 8 ≡ sampleLimit b
+limit-is Spi = refl
+limit-is I2c = refl
+
+module _ (p : Part) (t : List ℕ) where
+  -- a kind with a sample and no other field
+  sample-found : HasSample (getD t 0 0) → (getD t 0 0 ≡ 2 → ⊥) → (getD t 0 0 ≡ 5 → ⊥) → eventLength (getD t 0 0) ≤ length t → (e : Event) (n : ℕ)
+      → Found p t (cond (ltb (getD t 1 0) (sampleLimit (p .bus))) (Whole e n) (Refused R.SampleRange 1))
+  sample-found h no-start no-answer l e n = by (ltb (getD t 1 0) (sampleLimit (p .bus))) refl
+    where
+      by : (y : Bool) → ltb (getD t 1 0) (sampleLimit (p .bus)) ≡ y → Found p t (cond y (Whole e n) (Refused R.SampleRange 1))
+      by true y =
+          whole (record { sample = λ z. rw (limit-is (p .bus)) (ltb-true _ _ y); start = λ z. absurd (no-start z); expected = λ z. absurd (no-answer z) })
+      by false y = bad-sample (record { kind = h; there = l; large = rw (limit-is (p .bus)) (ltb-false _ _ y) })
+
+  -- 02
+  start-found : getD t 0 0 ≡ 2 → 5 ≤ length t → (e : Event) (n : ℕ)
+      → Found p t (cond (ltb (getD t 1 0) (sampleLimit (p .bus))) (cond (ltb (startGiven t) (p .size)) (Whole e n) (Refused R.StartRange 2)) (Refused R.SampleRange 1))
+  start-found k l e n = by (ltb (getD t 1 0) (sampleLimit (p .bus))) (ltb (startGiven t) (p .size)) refl refl
+    where
+      by : (y z : Bool) → ltb (getD t 1 0) (sampleLimit (p .bus)) ≡ y → ltb (startGiven t) (p .size) ≡ z
+          → Found p t (cond y (cond z (Whole e n) (Refused R.StartRange 2)) (Refused R.SampleRange 1))
+      by true true y z =
+          whole (record { sample = λ w. rw (limit-is (p .bus)) (ltb-true _ _ y); start = λ w. ltb-true _ _ z; expected = λ w. absurd (omega arith) })
+      by true false y z =
+          bad-start (record { kind = k; there = l; sample = rw (limit-is (p .bus)) (ltb-true _ _ y); large = ltb-false _ _ z })
+      by false z y w = bad-sample (record { kind = inr (inl k); there = rw k l; large = rw (limit-is (p .bus)) (ltb-false _ _ y) })
+
+  -- no kind with a sample
+  no-sample : (k : ℕ) → (k ≡ 1 → ⊥) → (k ≡ 2 → ⊥) → (k ≡ 4 → ⊥) → HasSample k → ⊥
+  no-sample k a b c h = ⊎-elim a (λ z. ⊎-elim b c z) h
+
+  -- 05
+  expected-found : getD t 0 0 ≡ 5 → 2 ≤ length t → (e : Event) (n : ℕ) → Found p t (cond (ltb (getD t 1 0) 3) (Whole e n) (Refused R.ExpectedRange 1))
+  expected-found k l e n = by (ltb (getD t 1 0) 3) refl
+    where
+      by : (y : Bool) → ltb (getD t 1 0) 3 ≡ y → Found p t (cond y (Whole e n) (Refused R.ExpectedRange 1))
+      by true y =
+          whole
+          (record {
+            sample = λ z. absurd (no-sample (getD t 0 0) (λ w. omega arith) (λ w. omega arith) (λ w. omega arith) z);
+            start = λ z. absurd (omega arith);
+            expected = λ z. ltb-true _ _ y;
+          })
+      by false y = bad-expected (record { kind = k; there = l; large = ltb-false _ _ y })
+
+  -- 03
+  no-field : getD t 0 0 ≡ 3 → GoodFields p t
+  no-field k =
+      record {
+        sample = λ z. absurd (no-sample (getD t 0 0) (λ w. omega arith) (λ w. omega arith) (λ w. omega arith) z);
+        start = λ z. absurd (omega arith);
+        expected = λ z. absurd (omega arith);
+      }
+
+  fields-found : knownKind (p .bus) (getD t 0 0) ≡ true → eventLength (getD t 0 0) ≤ length t
+      → Found p t (fieldsRead p (parsedEvent (getD t 0 0) t) (eventLength (getD t 0 0)))
+  fields-found h l =
+      by (eqb (getD t 0 0) 1) (eqb (getD t 0 0) 2) (eqb (getD t 0 0) 3) (eqb (getD t 0 0) 4) (eqb (getD t 0 0) 5) refl refl refl refl refl
+    where
+      by : (a b c d e : Bool) → eqb (getD t 0 0) 1 ≡ a → eqb (getD t 0 0) 2 ≡ b → eqb (getD t 0 0) 3 ≡ c → eqb (getD t 0 0) 4 ≡ d → eqb (getD t 0 0) 5 ≡ e
+          → Found p t (fieldsRead p (parsedEvent (getD t 0 0) t) (eventLength (getD t 0 0)))
+      by true b c d e x y z u v =
+          let k = eqb-true (getD t 0 0) 1 x in
+          rw k (sample-found (inl k) (λ w. omega arith) (λ w. omega arith) l _ _)
+      by false true c d e x y z u v = let k = eqb-true (getD t 0 0) 2 y in rw k (start-found k (rw k at l) _ _)
+      by false false true d e x y z u v = let k = eqb-true (getD t 0 0) 3 z in rw k (whole (no-field k))
+      by false false false true e x y z u v =
+          let k = eqb-true (getD t 0 0) 4 u in
+          rw k (sample-found (inr (inr k)) (λ w. omega arith) (λ w. omega arith) l _ _)
+      by false false false false true x y z u v = let k = eqb-true (getD t 0 0) 5 v in rw k (expected-found k (rw k at l) _ _)
+      by false false false false false x y z u v = absurd (false≢true (rw (x, y, z, u, v) at h))
+
+  found : Found p t (readOf p t)
+  unfolding readOf
+  found =
+      by (eqb (length t) 0) (knownKind (p .bus) (getD t 0 0)) (ltb (length t) (eventLength (getD t 0 0))) refl refl
+    where
+      by : (a b c : Bool) → knownKind (p .bus) (getD t 0 0) ≡ b → ltb (length t) (eventLength (getD t 0 0)) ≡ c
+          → Found p t (cond a (Refused R.Truncated 0) (cond b (cond c (Refused R.Truncated 0) (fieldsRead p (parsedEvent (getD t 0 0) t) (eventLength (getD t 0 0)))) (Refused R.UnknownKind 0)))
+      by true b c h l = short
+      by false false c h l = unknown
+      by false true true h l = short
+      by false true false h l = fields-found h (ltb-false (length t) (eventLength (getD t 0 0)) l)
+
+  -- ---- the number that follows
+
+  -- a number before those of the fields
+  early : (n : ℕ) → n ≤ 5 → Judged p t n
+  early n l =
+      record {
+        sample = λ z. absurd (omega arith);
+        start = λ z. absurd (omega arith);
+        expected = λ z. absurd (omega arith);
+        good = λ a b. absurd (omega arith);
+        eleven = omega arith;
+      }
+
+  -- a refusal is no accepted event
+  refused-judged : (n : ℕ) → 0 < n → Judged p t n → EventJudged p t n
+  refused-judged n l j = record { judged = j; accepted = λ z. absurd (omega arith) }
+
+  module _ (s : Model) (m : List ℕ) where
+    done-judged : {o : Outcome} → Done s m o → GoodFields p t → EventJudged p t (o .result .number)
+    done-judged (refused-with n l h) g =
+        refused-judged n (omega arith)
+        (record {
+          sample = λ z. absurd (omega arith);
+          start = λ z. absurd (omega arith);
+          expected = λ z. absurd (omega arith);
+          good = λ a b. g;
+          eleven = omega arith;
+        })
+    done-judged (accepted-as a x left u v) g = record { judged = early 0 (omega arith); accepted = λ z. g }
+
+    read-judged : (r : Read) → Found p t r → EventJudged p t (onRead r s m .result .number)
+    read-judged (Whole e n) (whole g) = done-judged (done s m e) g
+    read-judged (Refused R.SampleRange place) (bad-sample b) =
+        refused-judged 6 (omega arith)
+        (record {
+          sample = λ z. b;
+          start = λ z. absurd (omega arith);
+          expected = λ z. absurd (omega arith);
+          good = λ x y. absurd (omega arith);
+          eleven = omega arith;
+        })
+    read-judged (Refused R.StartRange place) (bad-start b) =
+        refused-judged 10 (omega arith)
+        (record {
+          sample = λ z. absurd (omega arith);
+          start = λ z. b;
+          expected = λ z. absurd (omega arith);
+          good = λ x y. absurd (omega arith);
+          eleven = omega arith;
+        })
+    read-judged (Refused R.ExpectedRange place) (bad-expected b) =
+        refused-judged 11 (omega arith)
+        (record {
+          sample = λ z. absurd (omega arith);
+          start = λ z. absurd (omega arith);
+          expected = λ z. b;
+          good = λ x y. absurd (omega arith);
+          eleven = omega arith;
+        })
+    read-judged (Refused R.Truncated place) short = refused-judged 5 (omega arith) (early 5 (omega arith))
+    read-judged (Refused R.UnknownKind place) unknown = refused-judged 4 (omega arith) (early 4 (omega arith))
+
+    -- where the reader points is where the number's field begins
+    done-placed : {o : Outcome} → Done s m o → 0 ≡ fieldAt (o .result .number)
+    done-placed (refused-with n l h) =
+        rw (ne-eqb n 6 (λ z. omega arith), ne-eqb n 10 (λ z. omega arith), ne-eqb n 11 (λ z. omega arith))
+    done-placed (accepted-as a x left u v) = refl
+
+    read-placed : (r : Read) → Found p t r → placeOf r ≡ fieldAt (onRead r s m .result .number)
+    read-placed (Whole e n) (whole g) = done-placed (done s m e)
+    read-placed (Refused R.SampleRange place) (bad-sample b) = refl
+    read-placed (Refused R.StartRange place) (bad-start b) = refl
+    read-placed (Refused R.ExpectedRange place) (bad-expected b) = refl
+    read-placed (Refused R.Truncated place) short = refl
+    read-placed (Refused R.UnknownKind place) unknown = refl
+
+-- state and memory give 1, 2 or 3
+abbrev Early : Verdict → Type 0
+Early Passed = Unit {0}
+Early (Failed r) = (0 < refusalNumber r) × (refusalNumber r ≤ 3)
+
+check-early : (s : Model) (l : ℕ) → Early (checkOf s l)
+unfolding checkOf
+check-early s l = by (modelIn s) (busIn (partOf (s .part)) (s .status) (s .bus)) (eqb l (partOf (s .part) .size))
+  where
+    by : (a b c : Bool) → Early (cond a (cond b (cond c Passed (Failed R.MemoryLength)) (Failed R.StateRange)) (Failed R.ModelRange))
+    by true true true = tt
+    by true true false = (omega arith, omega arith)
+    by true false c = (omega arith, omega arith)
+    by false b c = (omega arith, omega arith)
+
+-- ---- an event, on any state and memory
+
+pub event-judged : (s : Model) (m t : List ℕ) → EventJudged (partOf (s .part)) t (eventOf s m t .result .number)
+unfolding eventOf
+event-judged s m t = by (checkOf s (length m)) (check-early s (length m))
+  where
+    by : (v : Verdict) → Early v → EventJudged (partOf (s .part)) t (eventOnVerdict v s m t .result .number)
+    by Passed k = read-judged (partOf (s .part)) t s m (readOf (partOf (s .part)) t) (found (partOf (s .part)) t)
+    by (Failed r) k = refused-judged (partOf (s .part)) t (refusalNumber r) (k .0) (early (partOf (s .part)) t (refusalNumber r) (omega (arith, k .1)))
+
+-- ---- a run
+
+-- nothing accepted
+points-here : (p : Part) (t : List ℕ) (n place : ℕ) (s : Model) (m : List ℕ) → Judged p t n → place ≡ fieldAt n → Points p t (stopAt n place s m)
+points-here p t n place s m j e = record { accepted = λ i l. absurd (omega arith); judged = j; offset = rw e (sym (zero-add (fieldAt n))) }
+
+-- one accepted event before a run
+points-after : (p : Part) (t : List ℕ) (a : ℕ) (r : Run) → GoodFields p t → Points p (drop (taken t) t) r → Points p t (after a (taken t) r)
+points-after p t a r g k =
+    let more : 1 + r .count ≡ suc (r .count) = omega arith in
+    record {
+      accepted = each;
+      judged = rw (more, ← drop-drop) (k .judged);
+      offset = rw (more, k .offset, add-assoc);
+    }
+  where
+    each : (i : ℕ) → i < 1 + r .count → GoodFields p (drop (kindAt i t) t)
+    each zero l = g
+    each (suc i) l = rw (← drop-drop) (k .accepted i (omega arith))
+
+abbrev Pointing : ℕ → List ℕ → Model → List ℕ → Run → Type 0
+Pointing q t s m r = Sound s m → Points (partOf (s .part)) t r
+
+stops-point : (q n place : ℕ) (t : List ℕ) (s : Model) (m : List ℕ) → Stops t s m q n place → Pointing q t s m (stopAt n place s m)
+unfolding eventOf
+stops-point q n place t s m at-quota sound = points-here (partOf (s .part)) t 0 0 s m (early (partOf (s .part)) t 0 (omega arith)) refl
+stops-point q n place t s m (at-end z) sound = points-here (partOf (s .part)) t 0 0 s m (early (partOf (s .part)) t 0 (omega arith)) refl
+stops-point q n place t s m (at-refusal some not-0) sound =
+    points-here (partOf (s .part)) t _ _ s m (event-judged s m t .judged)
+    (rw sound (read-placed (partOf (s .part)) t s m (readOf (partOf (s .part)) t) (found (partOf (s .part)) t)))
+
+goes-on-pointing : (q : ℕ) (t : List ℕ) (s : Model) (m : List ℕ) → (length t ≡ 0 → ⊥) → eventOf s m t .result .number ≡ 0 → (r : Run)
+    → Pointing q (drop (taken t) t) (eventOf s m t .result .model) (eventOf s m t .memory) r
+    → Pointing (suc q) t s m (after (eventOf s m t .result .answer) (taken t) r)
+goes-on-pointing q t s m some none r k sound =
+    let rest = rw (event-stays s m t .part-stays) at (k (event-sound s m t sound)) in
+    points-after (partOf (s .part)) t (eventOf s m t .result .answer) r (event-judged s m t .accepted none) rest
+
+pub run-points : (q : ℕ) (t : List ℕ) (s : Model) (m : List ℕ) → Points (partOf (s .part)) t (runOf q t s m)
+unfolding runOf
+run-points q t s m = by (checkOf s (length m)) refl (check-early s (length m))
+  where
+    none : (n : ℕ) → n ≤ 3 → 0 ≡ fieldAt n
+    none n l = rw (ne-eqb n 6 (λ z. omega arith), ne-eqb n 10 (λ z. omega arith), ne-eqb n 11 (λ z. omega arith))
+
+    by : (v : Verdict) → checkOf s (length m) ≡ v → Early v → Points (partOf (s .part)) t (runOnVerdict v q t s m)
+    by Passed e k = loop-induction Pointing stops-point goes-on-pointing q t s m e
+    by (Failed r) e k =
+        points-here (partOf (s .part)) t (refusalNumber r) 0 s m (early (partOf (s .part)) t (refusalNumber r) (omega (arith, k .1))) (none (refusalNumber r) (k .1))
+
+-- ---- from a making
+
+part-after : (es : List (List ℕ)) (s : Model) (m : List ℕ) → modelAfter s m es .part ≡ s .part
+part-after [] s m = refl
+part-after (t ∷ es) s m = part-after es (eventOf s m t .result .model) (eventOf s m t .memory) ∙ event-stays s m t .part-stays
+
+pub fields-promise : (part pins bits : ℕ) (first : List ℕ) (es : List (List ℕ)) (quota : ℕ) (t : List ℕ) → FieldsPromise part pins bits first es quota t
+fields-promise part pins bits first es quota t =
+    let made : Model = madeBy part pins bits in
+    let s : Model = modelAfter made first es in
+    let m : List ℕ = memoryAfter made first es in
+    record {
+      event = rw (part-after es made first) at (event-judged s m t);
+      run = rw (part-after es made first) at (run-points quota t s m);
+    }
