@@ -4,6 +4,7 @@
 #![forbid(unsafe_code)]
 
 pub mod bytes;
+mod event;
 pub mod gen;
 pub mod i2c;
 pub mod ledger;

@@ -2,6 +2,7 @@
 //! trace runs.
 
 use crate::bytes::Selected;
+use crate::event::{read, Event, Refused};
 use crate::i2c::I2c;
 use crate::part::{Part, Wires, PARTS};
 use crate::spi::Spi;
@@ -32,18 +33,9 @@ pub struct Ran {
     pub number: u8,
     /// Accepted events.
     pub count: u64,
-    /// The bytes that the accepted events take.
+    /// The first kind byte not accepted, or the trace's length; for 6, 10 and 11 the first byte of
+    /// the bad field.
     pub offset: u64,
-}
-
-/// An event whose bytes are in order (numbers 4, 5 and 6 do not hold).
-#[derive(Clone, Copy)]
-enum Event {
-    SpiOn(u8),
-    I2cOn(u8, u32),
-    Off,
-    Sample(u8),
-    Expect(u8),
 }
 
 impl Model {
@@ -102,7 +94,7 @@ impl Model {
         }
         match self.step(bytes, memory) {
             Ok((answer, _)) => (0, answer),
-            Err(number) => (number, NOTHING),
+            Err(refused) => (refused.number, NOTHING),
         }
     }
 
@@ -168,22 +160,26 @@ impl Model {
                     ran.count += 1;
                     rest = &rest[length..];
                 }
-                Err(number) => {
-                    ran.number = number;
+                Err(refused) => {
+                    ran.number = refused.number;
+                    ran.offset = refused.behind as u64;
                     break;
                 }
             }
         }
-        ran.offset = (trace.len() - rest.len()) as u64;
+        ran.offset += (trace.len() - rest.len()) as u64;
         ran
     }
 
-    /// The event in front: its answer and its length, or its number from 4 to 9.
+    /// The event in front: its answer and its length, or why it is refused. What is wrong with its
+    /// bytes comes before what the model has against it.
     #[inline]
-    fn step(&mut self, bytes: &[u8], memory: &mut [u8]) -> Result<(u8, usize), u8> {
+    fn step(&mut self, bytes: &[u8], memory: &mut [u8]) -> Result<(u8, usize), Refused> {
         let (event, length) = read(self.part, bytes)?;
-        let answer = self.act(event, memory)?;
-        Ok((answer, length))
+        match self.act(event, memory) {
+            Ok(answer) => Ok((answer, length)),
+            Err(number) => Err(Refused::event(number)),
+        }
     }
 
     /// Numbers 7 to 9, then the event itself.
@@ -216,37 +212,5 @@ impl Model {
                 }
             }
         }
-    }
-}
-
-/// Numbers 4, 5 and 6, in this order; else the event and its length.
-#[inline]
-fn read(part: &Part, bytes: &[u8]) -> Result<(Event, usize), u8> {
-    let sample_in_range = |sample: u8| in_range(sample <= part.max_sample());
-    match (bytes, part.wires) {
-        (&[], _) => Err(5),
-        (&[4, sample, ..], _) => sample_in_range(sample).map(|()| (Event::Sample(sample), 2)),
-        (&[5, value, ..], _) => in_range(value <= 2).map(|()| (Event::Expect(value), 2)),
-        (&[3, ..], _) => Ok((Event::Off, 1)),
-        (&[1, sample, ..], Wires::Spi) => {
-            sample_in_range(sample).map(|()| (Event::SpiOn(sample), 2))
-        }
-        (&[2, sample, high, middle, low, ..], Wires::I2c) => {
-            let start = u32::from_be_bytes([0, high, middle, low]);
-            sample_in_range(sample)?;
-            in_range((start as usize) < part.size)?;
-            Ok((Event::I2cOn(sample, start), 5))
-        }
-        // A kind that the bus has, without all of its bytes.
-        (&[4 | 5, ..], _) | (&[1, ..], Wires::Spi) | (&[2, ..], Wires::I2c) => Err(5),
-        _ => Err(4),
-    }
-}
-
-fn in_range(holds: bool) -> Result<(), u8> {
-    if holds {
-        Ok(())
-    } else {
-        Err(6)
     }
 }

@@ -154,6 +154,9 @@ fn programs() {
     assert_eq!(program(0, &[]), "0 0 0\n");
     assert_eq!(program(3, &[]), "0 0 0\n");
     assert_eq!(program(3, &[2, 3, 0, 0, 0, 4, 3]), "ZZ\n0 2 7\n");
+    assert_eq!(program(0, &[1, 0x19, 4, 0x20]), "Z\n6 1 3\n");
+    assert_eq!(program(3, &[2, 3, 0, 0x20, 0]), "10 0 2\n");
+    assert_eq!(program(0, &[5, 3]), "11 0 1\n");
     assert_eq!(program(0, &[0; 65_536]), "4 0 0\n");
     assert_eq!(program(0, &[0; 65_537]), "too long\n");
     let full: Vec<u8> = [1, 25].into_iter().chain([4, 25].repeat(63)).collect();

@@ -1,17 +1,12 @@
 //! Demand 3: after a cut at any event, memory and saved bits are those of the ledger.
 
+#[path = "common/events.rs"]
+mod events;
+
+use events::front;
 use twin::gen::{self, Case, Rng};
 use twin::text::first_memory;
 use twin::{Ledger, Model};
-
-/// The bytes of the event in front, as far as they are there; an unknown kind is one byte.
-fn front(trace: &[u8]) -> &[u8] {
-    let length = [1, 2, 5, 1, 2, 2]
-        .get(usize::from(trace[0]))
-        .copied()
-        .unwrap_or(1);
-    &trace[..length.min(trace.len())]
-}
 
 /// A cut leaves the unpowered model of the ledger's bits, and the ledger's memory.
 fn compare_cut(model: &Model, memory: &mut [u8], ledger: &Ledger) {

@@ -3,6 +3,7 @@
 mod common;
 
 use common::Bus;
+use twin::pins::spelled;
 use twin::{Model, Ran, PARTS};
 
 /// The number of an event on a clone; the state, the memory and the answer must show no trace.
@@ -46,9 +47,11 @@ fn the_memory_comes_first() {
                 [].as_slice(),
                 &[9],
                 &[4, 99],
+                &[5, 99],
                 &[3],
                 &[1, 0],
                 &[2, 0, 0, 0, 0],
+                &[2, 0, 255, 255, 255],
             ] {
                 assert_eq!(model.event(event, &mut memory), (3, 2));
                 let none = Ran {
@@ -63,78 +66,252 @@ fn the_memory_comes_first() {
     }
 }
 
+/// A run of a part made with pins 0 and bits 0: the event that refuses it, with its number and how
+/// far behind its kind byte the offset shows.
+type Refusal = (&'static [u8], u8, u64);
+
+/// Each event alone and in a run behind accepted ones, from which it must take nothing away. Bytes
+/// behind the event change nothing.
+fn check(part: u32, accepted: &[&[u8]], refusals: &[Refusal]) {
+    let mut bus = Bus::make(part, 0, 0);
+    accepted.iter().for_each(|event| {
+        bus.event(event);
+    });
+    let before = accepted.concat();
+    for &(event, number, behind) in refusals {
+        let about = format!("part {part}, {event:?} behind {accepted:?}");
+        assert_eq!(refused(&bus.model, event, &bus.memory), number, "{about}");
+        // More bytes would make a whole event of one that is cut short.
+        let more: &[u8] = if number == 5 { &[] } else { &[4, 0, 9] };
+        let longer = [event, more].concat();
+        assert_eq!(refused(&bus.model, &longer, &bus.memory), number, "{about}");
+        let trace = [&before, event, more].concat();
+        let mut ran = Bus::make(part, 0, 0);
+        let given = ran
+            .model
+            .run(&trace, u64::MAX, &mut ran.memory, &mut Vec::new());
+        let expected = Ran {
+            number,
+            count: accepted.len() as u64,
+            offset: before.len() as u64 + behind,
+        };
+        assert_eq!(given, expected, "{about}");
+        assert_eq!(
+            (ran.model, ran.memory),
+            (bus.model.clone(), bus.memory.clone())
+        );
+    }
+}
+
+/// These are 4 and 5 with power or without: what their fields hold is not looked at.
+const SPI_FORMS: [Refusal; 11] = [
+    (&[0], 4, 0),
+    (&[6, 1, 1, 1], 4, 0),
+    (&[255], 4, 0),
+    // The power on of the other bus: in range, each field bad, all bad, cut short.
+    (&[2, 0, 0, 0, 0], 4, 0),
+    (&[2, 255, 0, 0, 0], 4, 0),
+    (&[2, 0, 255, 255, 255], 4, 0),
+    (&[2, 255, 255, 255, 255], 4, 0),
+    (&[2, 255], 4, 0),
+    (&[1], 5, 0),
+    (&[4], 5, 0),
+    (&[5], 5, 0),
+];
+
+const I2C_FORMS: [Refusal; 15] = [
+    (&[0], 4, 0),
+    (&[6, 1, 1, 1], 4, 0),
+    (&[255], 4, 0),
+    (&[1, 0], 4, 0),
+    (&[1, 255], 4, 0),
+    (&[1], 4, 0),
+    (&[2], 5, 0),
+    // Cut short, with a bad sample, a bad address as far as it goes, and both.
+    (&[2, 8], 5, 0),
+    (&[2, 8, 0, 0], 5, 0),
+    (&[2, 0, 255], 5, 0),
+    (&[2, 0, 255, 255], 5, 0),
+    (&[2, 8, 255], 5, 0),
+    (&[2, 255, 255, 255], 5, 0),
+    (&[4], 5, 0),
+    (&[5], 5, 0),
+];
+
+/// What precedes 7, 8 and 9 with power or without.
+const SPI_FIELDS: [Refusal; 10] = [
+    (&[1, 32], 6, 1),
+    (&[1, 33], 6, 1),
+    (&[1, 64], 6, 1),
+    (&[1, 255], 6, 1),
+    (&[4, 32], 6, 1),
+    (&[4, 128], 6, 1),
+    (&[4, 255], 6, 1),
+    (&[5, 3], 11, 1),
+    (&[5, 4], 11, 1),
+    (&[5, 255], 11, 1),
+];
+
+/// As for SPI; the start addresses are bad on both parts.
+const I2C_FIELDS: [Refusal; 15] = [
+    (&[2, 8, 0, 0, 0], 6, 1),
+    (&[2, 31, 0, 0x1f, 0xff], 6, 1),
+    (&[2, 255, 0, 0, 0], 6, 1),
+    (&[2, 8, 2, 0, 0], 6, 1),
+    (&[2, 255, 255, 255, 255], 6, 1),
+    (&[2, 7, 2, 0, 0], 10, 2),
+    (&[2, 0, 2, 0, 1], 10, 2),
+    (&[2, 3, 0x80, 0, 0], 10, 2),
+    (&[2, 7, 255, 255, 255], 10, 2),
+    (&[4, 8], 6, 1),
+    (&[4, 24], 6, 1),
+    (&[4, 255], 6, 1),
+    (&[5, 3], 11, 1),
+    (&[5, 4], 11, 1),
+    (&[5, 255], 11, 1),
+];
+
 #[test]
 fn order_without_power() {
-    for part in &PARTS {
-        let (_, model) = Model::make(part.number, 0, 0);
-        let memory = vec![7; part.size];
-        let (own, other) = if part.number < 3 { (1, 2) } else { (2, 1) };
-        let mut expected = vec![
-            (vec![], 5),
-            (vec![0], 4),
-            (vec![6, 1, 1, 1], 4),
-            (vec![255], 4),
-            (vec![other], 4),
-            (vec![other, 255, 255, 255, 255], 4),
-            (vec![own], 5),
-            (vec![4], 5),
-            (vec![5], 5),
-            (vec![3], 7),
-            (vec![4, part.max_sample()], 7),
-            (vec![4, part.max_sample() + 1], 6),
-            (vec![5, 2], 7),
-            (vec![5, 3], 6),
-            (vec![own, part.max_sample() + 1, 0, 0, 0], 6),
-            (vec![own, 0, 0, 0, 0, 99], 0),
-        ];
-        if own == 2 {
-            let [_, high, middle, low] = (part.size as u32).to_be_bytes();
-            let [_, top, next, last] = (part.size as u32 - 1).to_be_bytes();
-            expected.push((vec![2, 9, 255, 255], 5));
-            expected.push((vec![2, 0, high, middle, low], 6));
-            expected.push((vec![2, 0, top, next, last], 0));
+    let rest: [Refusal; 6] = [
+        (&[3], 7, 0),
+        (&[4, 0], 7, 0),
+        (&[4, 7], 7, 0),
+        (&[5, 0], 7, 0),
+        (&[5, 1], 7, 0),
+        (&[5, 2], 7, 0),
+    ];
+    for part in 0..3 {
+        let cut: [&[u8]; 3] = [&[1, 31], &[4, 31], &[3]];
+        for accepted in [&[][..], &cut] {
+            for refusals in [&SPI_FORMS[..], &SPI_FIELDS, &rest, &[(&[4, 31], 7, 0)]] {
+                check(part, accepted, refusals);
+            }
         }
-        for (event, number) in expected {
-            assert_eq!(
-                refused(&model, &event, &memory),
-                number,
-                "{part:?} {event:?}"
-            );
+    }
+    for part in 3..5 {
+        let cut: [&[u8]; 3] = [&[2, 7, 0, 0x1f, 0xff], &[4, 7], &[3]];
+        for accepted in [&[][..], &cut] {
+            for refusals in [&I2C_FORMS[..], &I2C_FIELDS, &rest] {
+                check(part, accepted, refusals);
+            }
         }
     }
 }
 
+/// The present answer is 2 here, so that 9 holds of every other value.
 #[test]
 fn order_under_power() {
-    for part in &PARTS {
-        let spi = part.number < 3;
-        let bus = if spi {
-            Bus::spi(part.number, 0)
-        } else {
-            Bus::i2c(part.number, 0, 0)
-        };
-        let own = if spi { 1 } else { 2 };
-        let expected = [
-            (vec![], 5),
-            (vec![7], 4),
-            (vec![3 - own, 0, 0, 0, 0], 4),
-            (vec![own], 5),
-            (vec![own, 255, 0, 0, 0], 6),
-            (vec![own, 0, 0, 0, 0], 8),
-            (vec![4, part.max_sample() + 1], 6),
-            (vec![5, 3], 6),
-            (vec![5, 0], 9),
-            (vec![5, 1], 9),
-            (vec![5, 2], 0),
-            (vec![3], 0),
-        ];
-        for (event, number) in expected {
-            assert_eq!(
-                refused(&bus.model, &event, &bus.memory),
-                number,
-                "{event:?}"
-            );
+    let rest: [Refusal; 2] = [(&[5, 0], 9, 0), (&[5, 1], 9, 0)];
+    let spi_on: [Refusal; 2] = [(&[1, 0], 8, 0), (&[1, 31], 8, 0)];
+    for part in 0..3 {
+        let powered: [&[u8]; 4] = [&[1, 25], &[4, 24], &[5, 2], &[4, 31]];
+        for refusals in [&SPI_FORMS[..], &SPI_FIELDS, &spi_on, &rest] {
+            check(part, &powered[..1], refusals);
+            check(part, &powered, refusals);
         }
+    }
+    let i2c_on: [Refusal; 2] = [(&[2, 0, 0, 0, 0], 8, 0), (&[2, 7, 0, 0x1f, 0xff], 8, 0)];
+    for part in 3..5 {
+        let powered: [&[u8]; 4] = [&[2, 3, 0, 0, 0], &[4, 1], &[5, 2], &[4, 7]];
+        for refusals in [&I2C_FORMS[..], &I2C_FIELDS, &i2c_on, &rest] {
+            check(part, &powered[..1], refusals);
+            check(part, &powered, refusals);
+        }
+    }
+}
+
+/// The size is 2000h on part 3 and 20000h on part 4.
+#[test]
+fn start_addresses_by_part() {
+    let on_both: [(&[u8], u8); 2] = [(&[2, 7, 0, 0x1f, 0xff], 8), (&[2, 7, 2, 0, 0], 10)];
+    let on_3: [(&[u8], u8); 3] = [
+        (&[2, 7, 0, 0x20, 0], 10),
+        (&[2, 0, 0, 0x20, 1], 10),
+        (&[2, 7, 1, 0xff, 0xff], 10),
+    ];
+    for (part, others) in [(3, on_3), (4, on_3.map(|(event, _)| (event, 8)))] {
+        for (event, number) in on_both.into_iter().chain(others) {
+            let behind = if number == 10 { 2 } else { 0 };
+            check(part, &[&[2, 3, 0, 0, 0]], &[(event, number, behind)]);
+            // Without power 10 stays, and the others are in range.
+            let model = Model::make(part, 0, 0).1;
+            let without = if number == 10 { 10 } else { 0 };
+            let memory = vec![7; model.part().size];
+            assert_eq!(refused(&model, event, &memory), without, "{event:?}");
+        }
+    }
+}
+
+/// The last values in range are taken; bytes behind an event are not looked at.
+#[test]
+fn values_at_the_limits() {
+    for part in 0..3 {
+        let mut bus = Bus::make(part, 0, 0);
+        for event in [[1, 31, 99], [4, 31, 99], [5, 2, 99]] {
+            assert_eq!(bus.event(&event), 2);
+        }
+    }
+    for (part, last) in [(3, [0, 0x1f, 0xff]), (4, [1, 0xff, 0xff])] {
+        let mut bus = Bus::make(part, 0, 0);
+        let on = [&[2, 7], &last[..], &[99]].concat();
+        for event in [&on[..], &[4, 7, 99], &[5, 2, 99]] {
+            assert_eq!(bus.event(event), 2);
+        }
+    }
+}
+
+/// Nothing in front is 5; in a run it is the end.
+#[test]
+fn an_empty_event() {
+    for part in &PARTS {
+        let (_, mut model) = Model::make(part.number, 0, 0);
+        let mut memory = vec![7; part.size];
+        assert_eq!(refused(&model, &[], &memory), 5);
+        let end = Ran {
+            number: 0,
+            count: 0,
+            offset: 0,
+        };
+        assert_eq!(model.run(&[], 9, &mut memory, &mut Vec::new()), end);
+    }
+}
+
+/// What a run stored before a bad field stays stored, and the selection under way stays open.
+#[test]
+fn earlier_events_stand() {
+    let stored = [spelled(true, &[6]), spelled(true, &[2, 0, 5, 0x77])].concat();
+    let before = [&[1, 25], &stored[..], &[4, 24, 4, 26]].concat();
+    let bad: [(&[u8], u8); 3] = [(&[4, 32], 6), (&[1, 32], 6), (&[5, 3], 11)];
+    for (event, number) in bad {
+        let mut bus = Bus::make(0, 0, 0);
+        let trace = [&before, event, &[3]].concat();
+        let ran = bus
+            .model
+            .run(&trace, u64::MAX, &mut bus.memory, &mut Vec::new());
+        let whole = Ran {
+            number,
+            count: before.len() as u64 / 2,
+            offset: before.len() as u64 + 1,
+        };
+        assert_eq!(ran, whole);
+        assert_eq!(bus.memory[5], 0x77);
+        let mut other = Bus::make(0, 0, 0);
+        for event in before.chunks(2) {
+            other.event(event);
+        }
+        assert_eq!((bus.model, bus.memory), (other.model, other.memory));
+    }
+}
+
+/// 11 also where the part drives, and 9 there for the values in range.
+#[test]
+fn expected_values_while_a_bit_is_shown() {
+    let mut bus = Bus::spi(0, 0);
+    bus.select();
+    bus.bytes(&[5]);
+    for (value, number) in [(0, 0), (1, 9), (2, 9), (3, 11), (255, 11)] {
+        assert_eq!(refused(&bus.model, &[5, value], &bus.memory), number);
     }
 }
 
