@@ -19,10 +19,9 @@ fn rows(path: &Path) -> Vec<(usize, String)> {
     rows.filter(|(_, row)| !row.starts_with('#')).collect()
 }
 
-#[test]
-fn every_line_agrees() {
-    let path = vectors("base.txt", "TWIN_VECTORS");
-    let rows = rows(&path);
+/// Plays every line of a file; how many there are.
+fn lines_agree(path: &Path) -> usize {
+    let rows = rows(path);
     for (at, row) in &rows {
         let theirs = Line::parse(row).unwrap_or_else(|| panic!("line {at}: not a vector"));
         let ours = Line::play(theirs.part, theirs.pins, theirs.bits, &theirs.trace);
@@ -31,7 +30,20 @@ fn every_line_agrees() {
         assert_eq!(ours.changed, theirs.changed, "line {at}: changed cells");
         assert_eq!(ours.to_string(), row.trim_end(), "line {at}: as text");
     }
-    assert!(!rows.is_empty(), "no vectors in {}", path.display());
+    rows.len()
+}
+
+#[test]
+fn every_line_agrees() {
+    let path = vectors("base.txt", "TWIN_VECTORS");
+    assert!(lines_agree(&path) > 0, "no vectors in {}", path.display());
+}
+
+/// Lines with fields out of range, and some without.
+#[test]
+fn every_bad_field_agrees() {
+    let path = vectors("fields.txt", "TWIN_FIELD_VECTORS");
+    assert_eq!(lines_agree(&path), 120, "vectors in {}", path.display());
 }
 
 #[test]
