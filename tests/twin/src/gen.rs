@@ -2,6 +2,7 @@
 //! so that its expected answers (05) can be right.
 
 mod bytes;
+mod fields;
 mod i2c;
 mod spi;
 
@@ -64,6 +65,8 @@ pub struct Knobs {
     pub cut: u32,
     /// That a power on comes with a refused event before it or after it.
     pub stray: u32,
+    /// That an event with a field out of range, or at the end of its range, is put into the trace.
+    pub fields: u32,
     /// That the finished trace is damaged.
     pub damage: u32,
     /// That the trace is noise throughout.
@@ -81,6 +84,7 @@ impl Default for Knobs {
             glitch: 8,
             cut: 1,
             stray: 0,
+            fields: 0,
             damage: 0,
             noise: 0,
         }
@@ -103,6 +107,7 @@ impl Knobs {
             glitch: rng.pick(&[0, 0, 3, 10, 60]),
             cut: rng.pick(&[0, 0, 1, 3]),
             stray: rng.pick(&[0, 10]),
+            fields: rng.pick(&[0, 0, 200]),
             damage: rng.pick(&[0, 0, 300]),
             noise: 60,
         }
@@ -153,15 +158,23 @@ pub fn trace_with(rng: &mut Rng, part: u32, knobs: &Knobs) -> Vec<u8> {
         bench.fill();
         bench.out
     };
+    if rng.chance(knobs.fields) {
+        fields::put_fields(rng, known(part), &mut out);
+    }
     if rng.chance(knobs.damage) {
         damage(rng, &mut out);
     }
     out
 }
 
+/// The part of a number; that of a refused making is part 0.
+fn known(part: u32) -> &'static Part {
+    PARTS.get(part as usize).unwrap_or(&PARTS[0])
+}
+
 /// Wholly random bytes, or random events of the right form.
 fn noise(rng: &mut Rng, part: u32) -> Vec<u8> {
-    let known = PARTS.get(part as usize).unwrap_or(&PARTS[0]);
+    let known = known(part);
     let length = rng.below(600);
     if rng.chance(300) {
         return (0..length).map(|_| rng.byte()).collect();

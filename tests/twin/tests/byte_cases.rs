@@ -21,6 +21,9 @@ struct Tally {
     unready: u32,
     other_length: u32,
     trace_refused: u32,
+    /// Of these, for a bad sample and for a bad expected value.
+    bad_sample: u32,
+    bad_expected: u32,
     bytes: usize,
 }
 
@@ -32,6 +35,8 @@ impl Tally {
         self.cases += 1;
         self.bytes += case.input.len();
         self.trace_refused += u32::from(ran.number != 0);
+        self.bad_sample += u32::from(ran.number == 6);
+        self.bad_expected += u32::from(ran.number == 11);
         let (wp, mut cells) = (case.wp != 0, memory.clone());
         let mut after = model.clone();
         let mut output = vec![0; case.length];
@@ -60,6 +65,8 @@ fn cases_of(part: u32, cases: u32) {
     assert!(tally.showed > cases / 5, "{tally:?}");
     assert!(tally.wrote > cases / 10, "{tally:?}");
     assert!(tally.trace_refused > cases / 100, "{tally:?}");
+    assert!(tally.bad_sample > cases / 500, "{tally:?}");
+    assert!(tally.bad_expected > cases / 1000, "{tally:?}");
     assert!(tally.unready > cases / 50, "{tally:?}");
     assert!(tally.other_length > cases / 100, "{tally:?}");
 }

@@ -1,7 +1,7 @@
 //! Selections as bytes, each with a trace that comes before it.
 
-use super::{border_address, trace_with, Knobs, Rng};
-use crate::part::{spi_pin, Part, Wires, PARTS};
+use super::{border_address, known, trace_with, Knobs, Rng};
+use crate::part::{spi_pin, Part, Wires};
 use crate::pins::spelled;
 
 /// A making, a trace, and then a selection.
@@ -59,11 +59,6 @@ pub fn selection_bytes(rng: &mut Rng, part: u32) -> Vec<u8> {
             input
         }
     }
-}
-
-/// The part of a number; that of a refused making is part 0.
-fn known(part: u32) -> &'static Part {
-    PARTS.get(part as usize).unwrap_or(&PARTS[0])
 }
 
 /// A code of the part, most often one that has data, and what goes behind it.
@@ -165,7 +160,8 @@ fn commands(rng: &mut Rng, part: &Part) -> Vec<u8> {
     for _ in 0..rng.below(5) {
         piece(rng, part, &mut out);
         if rng.chance(15) {
-            out.extend(rng.pick(&[[9, 0], [1, 25], [5, 0], [4, 32], [2, 0]]));
+            let bad_fields = rng.pick(&[[1, 32], [4, 32], [5, 3]]);
+            out.extend(rng.pick(&[[9, 0], [1, 25], [5, 0], [2, 0], bad_fields]));
         }
     }
     out
