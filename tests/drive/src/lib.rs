@@ -8,8 +8,10 @@ pub mod bad;
 pub mod bad_bytes;
 pub mod byte_call;
 pub mod call;
+pub mod field;
 pub mod more;
 mod outcome;
+pub mod renumber;
 pub mod script;
 pub mod tally;
 
