@@ -3,7 +3,8 @@
 
 use crate::bad::{no_makings, no_sizes, one_stored, plain, NO_PARTS, RESULTS, STORED_AT};
 use crate::byte_call::ByteCall;
-use twin::part::{spi_pin, Wires};
+use crate::refused::{self, Refused};
+use twin::part::{i2c_pin, spi_pin, Wires};
 use twin::text::first_byte;
 use twin::{Part, PARTS};
 
@@ -117,34 +118,26 @@ fn memories(part: &Part) -> Vec<Bad> {
 }
 
 /// Refused events: their number comes before 4, 12 and 13, and what came before them stands. Each
-/// comes at the end of a good trace, without power for 7, and so that CS# is 0 for 12 otherwise.
+/// comes at the end of a good trace where it is refused: under power, also so that CS# is 0 on SPI,
+/// and without.
 fn traces(part: &Part) -> Vec<Bad> {
-    let (low, power_on): (&[u8], &[u8]) = match part.wires {
-        Wires::Spi => (&[4, spi_pin::HOLD], &[1, 0]),
-        Wires::I2c => (&[4, 3], &[2, 3, 0, 0, 0]),
+    let low = match part.wires {
+        Wires::Spi => spi_pin::HOLD,
+        Wires::I2c => i2c_pin::SCL | i2c_pin::SDA,
     };
-    let events: [(&[u8], u8); 8] = [
-        (&[0xff], 4),
-        (&[0], 4),
-        (&[4], 5),
-        (&[5], 5),
-        (&[4, 0xff], 6),
-        (&[5, 3], 6),
-        (power_on, 8),
-        (&[5, 1], 9),
-    ];
-    let refused = |&(event, number): &(&[u8], u8)| {
-        let ends = [event.to_vec(), [low, event].concat()];
-        each_way(part, &ends, number, BY_TRACE, |call, end| {
+    let befores: [(&[u8], bool); 3] = [(&[], true), (&[4, low], true), (&[3], false)];
+    let each = |refused: Refused| {
+        let met = befores
+            .iter()
+            .filter(|(_, powered)| refused.when.holds(*powered));
+        let ends: Vec<Vec<u8>> = met
+            .map(|(before, _)| [before, &refused.event[..]].concat())
+            .collect();
+        each_way(part, &ends, refused.number, BY_TRACE, |call, end| {
             call.trace.extend(end);
         })
     };
-    let without_power = [&[3, 4, 0][..], &[3, 3], &[3, 5, 2]];
-    let seven = each_way(part, &without_power, 7, BY_TRACE, |call, &end| {
-        call.trace.extend(end);
-    });
-    let refused = events.iter().flat_map(refused).chain(seven);
-    with_another_length(refused.collect())
+    with_another_length(refused::events(part).into_iter().flat_map(each).collect())
 }
 
 /// A part of the other bus, whatever its state.

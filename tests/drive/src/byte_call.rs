@@ -3,7 +3,7 @@
 
 use crate::call::Call;
 use crate::outcome::{first_difference, result_of, Outcome, LEFT};
-use crate::tally::events;
+use crate::trace::events;
 use crate::{LentBytes, Making, Selected};
 use std::fmt;
 use twin::gen::ByteCase;

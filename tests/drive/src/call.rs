@@ -1,8 +1,9 @@
-//! One call of the proved build and the same run of the twin, compared in all that a host can see,
-//! and its memory with the ledger's.
+//! One call of the proved build and the same run of the twin, compared in all that a host can see;
+//! then its offset with what the bytes tell, and its memory with the ledger's.
 
+use crate::field::{self, bad_field};
 use crate::outcome::{first_difference, result_of, Outcome, LEFT};
-use crate::tally::events;
+use crate::trace::{after, events};
 use crate::{Lent, Making, Ran};
 use std::fmt;
 use twin::gen::Case;
@@ -70,6 +71,7 @@ impl Call {
         if let Some(difference) = ours.difference(&theirs, "answer") {
             return Err(difference);
         }
+        self.placed(&ran)?;
         let stored = match &ours.shown {
             Some(answers) if ran.count <= answers.len() as u64 => {
                 self.told(ran.count, answers, &ours.memory)?
@@ -82,6 +84,21 @@ impl Call {
             stored,
         };
         Ok((agreed, ours))
+    }
+
+    /// Whether the number is that of a bad field, and the offset its first byte's, just where the
+    /// bytes of the refused event say so. Both sides could be wrong here in the same way.
+    fn placed(&self, ran: &Ran) -> Result<(), String> {
+        let (kind_byte, event) = after(&self.trace, ran.count);
+        let refused = event.filter(|_| ran.number > 3);
+        let bad = refused.and_then(|event| bad_field(&PARTS[self.making.part as usize], event));
+        let number = Some(ran.number).filter(|number| field::NUMBERS.contains(number));
+        let offset = kind_byte + bad.map_or(0, |bad| bad.place as u64);
+        if (number, ran.offset) == (bad.map(|bad| bad.number), offset) {
+            Ok(())
+        } else {
+            Err(format!("{ran:?}, and the bytes say {bad:?} at {offset}"))
+        }
     }
 
     /// What the ledger of the accepted events says was stored, if it has the same memory.

@@ -11,9 +11,11 @@ pub mod call;
 pub mod field;
 pub mod more;
 mod outcome;
+pub mod refused;
 pub mod renumber;
 pub mod script;
 pub mod tally;
+pub mod trace;
 
 pub use archive::{call, call_bytes, Lent, LentBytes};
 pub use twin::{Ran, Selected};

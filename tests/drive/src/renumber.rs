@@ -3,7 +3,7 @@
 //! is, the trace's bytes tell.
 
 use crate::field::{self, bad_field, BadField};
-use crate::tally::events;
+use crate::trace::after;
 use std::fmt;
 use twin::text::Line;
 use twin::PARTS;
@@ -92,10 +92,8 @@ fn given(row: &str) -> Result<(Given, Given), String> {
 /// The offset of the kind byte after the accepted events, and the bad field of the event there.
 fn refused(line: &Line) -> Result<(u64, BadField), String> {
     let part = PARTS.get(line.part as usize).ok_or("no such part")?;
-    let mut rest = events(&line.trace);
-    let accepted = rest.by_ref().take(line.ran.count as usize);
-    let kind_byte = accepted.map(|event| event.len() as u64).sum();
-    let event = rest.next().ok_or("no event is left to be refused")?;
+    let (kind_byte, event) = after(&line.trace, line.ran.count);
+    let event = event.ok_or("no event is left to be refused")?;
     let bad = bad_field(part, event);
     let bad = bad.ok_or(format!(
         "the event at {kind_byte} has no field out of range"

@@ -2,7 +2,10 @@
 
 use crate::byte_call::BytesAgreed;
 use crate::call::Agreed;
+use crate::trace::events;
 use std::fmt;
+use twin::part::Wires;
+use twin::Part;
 
 #[derive(Clone, Debug, Default)]
 pub struct Tally {
@@ -13,7 +16,7 @@ pub struct Tally {
     /// Accepted events that stored a byte.
     pub stored: u64,
     /// Traces by the number that ended them; 0 for those that ran to their end.
-    pub numbers: [u64; 10],
+    pub numbers: [u64; 12],
 }
 
 impl Tally {
@@ -41,17 +44,30 @@ impl fmt::Display for Tally {
         let share = 100.0 * self.accepted as f64 / self.events.max(1) as f64;
         write!(to, "{:>9} {:>12} ", self.traces, self.accepted)?;
         write!(to, "{share:>6.1}% {:>9}  ", self.stored)?;
-        for number in [0, 4, 5, 6, 7, 8, 9] {
-            write!(to, " {:>8}", self.numbers[number])?;
-        }
-        Ok(())
+        let refused = REFUSALS.map(|number| self.numbers[number]);
+        write!(to, " {:>8}{}", self.numbers[0], columns(refused))
     }
 }
 
+/// The numbers that can refuse an event.
+const REFUSALS: [usize; 8] = [4, 5, 6, 7, 8, 9, 10, 11];
+
+/// Those of a part: a start address, and so 10, is on I2C alone.
+pub fn refusals(part: &Part) -> impl Iterator<Item = usize> + '_ {
+    let here = |&number: &usize| number != 10 || part.wires == Wires::I2c;
+    REFUSALS.into_iter().filter(here)
+}
+
 /// The heads of the columns.
-pub const HEAD: &str =
-    "   traces     accepted   share    stored   ended by 0        4        5        \
-                        6        7        8        9";
+pub fn head() -> String {
+    let left = "   traces     accepted   share    stored   ended: 0";
+    left.to_string() + &columns(REFUSALS)
+}
+
+fn columns(cells: impl IntoIterator<Item = impl fmt::Display>) -> String {
+    let cells = cells.into_iter();
+    cells.map(|cell| format!(" {cell:>8}")).collect()
+}
 
 /// What many compared selections as bytes amount to.
 #[derive(Clone, Debug, Default)]
@@ -81,20 +97,4 @@ impl fmt::Display for ByteTally {
         write!(to, "{taken} of them taken: {} bytes ", self.driven)?;
         write!(to, "driven, {} stored", self.stored)
     }
-}
-
-/// The events of a trace, whole or not; an unknown kind is one byte.
-pub fn events(trace: &[u8]) -> impl Iterator<Item = &[u8]> {
-    let mut rest = trace;
-    std::iter::from_fn(move || {
-        let &kind = rest.first()?;
-        let length = match kind {
-            1 | 4 | 5 => 2,
-            2 => 5,
-            _ => 1,
-        };
-        let (event, after) = rest.split_at(length.min(rest.len()));
-        rest = after;
-        Some(event)
-    })
 }

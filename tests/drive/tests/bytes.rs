@@ -62,7 +62,7 @@ fn spi(part: u32) {
     assert!(2 * tally.numbers[0] > tally.selections, "{tally:?}");
     let refused = [4, 12, 13].map(|number| tally.numbers[number]);
     assert!(refused.iter().all(|&count| count > 0), "{tally:?}");
-    let in_trace = tally.numbers[5..10].iter().filter(|&&count| count > 0);
+    let in_trace = tally.numbers[5..12].iter().filter(|&&count| count > 0);
     assert!(in_trace.count() >= 3, "{tally:?}");
     assert!(tally.stored > 2 * tally.selections, "{tally:?}");
     assert!(tally.driven > 2 * tally.selections, "{tally:?}");
@@ -72,7 +72,7 @@ fn spi(part: u32) {
 fn i2c(part: u32) {
     let tally = differential(part, 600);
     assert!(tally.numbers[4] > 300, "{tally:?}");
-    let in_trace: u64 = tally.numbers[5..10].iter().sum();
+    let in_trace: u64 = tally.numbers[5..12].iter().sum();
     assert_eq!(tally.numbers[4] + in_trace, 600, "{tally:?}");
     assert!(in_trace > 0, "{tally:?}");
 }

@@ -3,7 +3,8 @@
 //! starts; no model of the twin is asked. Then lists of selections as bytes, cut after each.
 
 use drive::script::{self, Script};
-use drive::{tally, Making};
+use drive::trace::events;
+use drive::Making;
 use twin::gen::{self, Case, Rng};
 use twin::part::Wires;
 use twin::pins::spelled;
@@ -63,7 +64,7 @@ impl Bench {
     /// Cuts after the events of `front` and looks at what the ledger says is left: the whole
     /// memory, the status register of a SPI part, and one byte as the bus shows it.
     fn cut(&mut self, front: &[u8], powered: bool, ledger: &Ledger, address: usize) {
-        let before = tally::events(front).count();
+        let before = events(front).count();
         let look = Look::after_cut(self.part, self.making.pins, powered, address);
         let whole = [front, look.script.trace()].concat();
         let ran = self.run(&whole);
@@ -145,7 +146,7 @@ fn follow(case: &Case, rng: &mut Rng) -> u64 {
     let mut ledger = bench.ledger();
     let (mut at, mut powered, mut changes) = (0, false, 0);
     bench.cut(&[], powered, &ledger, 0);
-    for (event, answer) in tally::events(&case.trace).zip(answers) {
+    for (event, answer) in events(&case.trace).zip(answers) {
         let before = ledger.clone();
         ledger.feed(event, answer);
         changes += changed(&before, &ledger).iter().sum::<u64>();
@@ -176,12 +177,12 @@ fn follow_list(making: Making, rng: &mut Rng) -> [u64; 2] {
     for (wp, input) in list(making.part, rng) {
         assert_eq!(bench.select(&trace, wp, &input), 0, "{trace:x?} {input:x?}");
         let by_bytes = bench.memory.clone();
-        let count = tally::events(&trace).count();
+        let count = events(&trace).count();
         trace.extend(spelled(wp, &input));
         bench.run(&trace);
         let before = ledger.clone();
-        let events = tally::events(&trace).zip(&bench.answers).skip(count);
-        events.for_each(|(event, &answer)| ledger.feed(event, answer));
+        let its_own = events(&trace).zip(&bench.answers).skip(count);
+        its_own.for_each(|(event, &answer)| ledger.feed(event, answer));
         assert!(by_bytes == ledger.memory(), "memory: {trace:x?} {input:x?}");
         changes = added(changes, changed(&before, &ledger));
         let address = bench.address(rng);

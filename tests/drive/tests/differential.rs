@@ -2,8 +2,9 @@
 //! whole memory are equal, for the whole trace and for a run that a quota stops in it.
 
 use drive::call::Call;
-use drive::tally::Tally;
+use drive::tally::{refusals, Tally};
 use twin::gen::{self, Case, Knobs, Rng};
+use twin::PARTS;
 
 /// Both, or the trace at which they differ.
 fn compare(case: Case, rng: &mut Rng, tally: &mut Tally) {
@@ -28,10 +29,8 @@ fn structured(part: u32, traces: u64) {
     }
     assert!(tally.accepted > 300 * traces, "{tally:?}");
     assert!(2 * tally.stored > traces, "{tally:?}");
-    assert!(
-        tally.numbers[4..].iter().all(|&ended| ended > 0),
-        "{tally:?}"
-    );
+    let met = (1..tally.numbers.len()).filter(|&number| tally.numbers[number] > 0);
+    assert!(met.eq(refusals(&PARTS[part as usize])), "{tally:?}");
 }
 
 #[test]

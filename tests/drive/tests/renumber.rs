@@ -3,7 +3,7 @@
 
 use drive::field;
 use drive::renumber::{renumbered, Change, Given};
-use drive::tally::events;
+use drive::trace::after;
 use std::io::Write;
 use std::process::{Command, Output, Stdio};
 use twin::text::Line;
@@ -119,10 +119,9 @@ fn a_text_and_its_changes() {
 /// Vectors with a number of a bad field as document 01 had them: 6, and the offset of the kind byte.
 fn as_it_was(row: &str) -> Option<String> {
     let line = Line::parse(row).filter(|line| field::NUMBERS.contains(&line.ran.number))?;
-    let accepted = events(&line.trace).take(line.ran.count as usize);
     let mut old = line.clone();
     old.ran.number = 6;
-    old.ran.offset = accepted.map(|event| event.len() as u64).sum();
+    old.ran.offset = after(&line.trace, line.ran.count).0;
     Some(old.to_string())
 }
 

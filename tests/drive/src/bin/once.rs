@@ -31,7 +31,7 @@ fn calls(rng: &mut Rng) -> Vec<Call> {
         calls.push(whole.stopped(rng.below(400)));
         calls.push(whole);
     }
-    calls.extend(bad::calls().into_iter().map(|(call, _)| call));
+    calls.extend(bad::calls().into_iter().map(|bad| bad.call));
     calls
 }
 

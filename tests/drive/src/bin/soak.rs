@@ -3,7 +3,7 @@
 
 use drive::byte_call::ByteCall;
 use drive::call::{Agreed, Call};
-use drive::tally::{ByteTally, Tally, HEAD};
+use drive::tally::{head, ByteTally, Tally};
 use std::process::ExitCode;
 use std::time::{Duration, Instant};
 use twin::gen::{self, Case, Knobs, Rng};
@@ -103,7 +103,7 @@ fn compared(call: &Call) -> Result<Agreed, String> {
 }
 
 fn report(tallies: &[Tally], accepted: u64, time: Duration) {
-    println!("part{HEAD}");
+    println!("part{}", head());
     let mut sum = Tally::default();
     for (part, tally) in tallies.iter().enumerate() {
         println!("{part:>4}{tally}");

@@ -2,7 +2,7 @@
 
 use crate::{median, timed};
 use drive::script::{addressed, Script};
-use drive::tally::events;
+use drive::trace::events;
 use drive::{Making, Ran};
 use std::hint::black_box;
 use twin::gen::Rng;
