@@ -1,5 +1,8 @@
-//! The traces of tests/vectors/more.txt. Each shows a rule of document 01 that a wrong model could
-//! break and still pass the 500 generated vectors of base.txt, which seldom get there.
+//! The traces of tests/vectors/more.txt. Each shows a rule of document 01 or of ask 1 that a wrong
+//! model could break and still pass the generated vectors of base.txt and fields.txt, which seldom
+//! get there.
+
+mod fields;
 
 use crate::script::{addressed, Script};
 use std::fmt::Write;
@@ -46,6 +49,7 @@ fn all() -> Vec<Shown> {
         write_protect_as_cs_rises(),
         bits_over_a_cut(),
         borders(),
+        fields::all(),
     ]
     .concat()
 }

@@ -6,6 +6,7 @@ use twin::text::{changed_cells, first_memory, Line};
 use twin::PARTS;
 
 const BASE: &str = include_str!("../../vectors/base.txt");
+const FIELDS: &str = include_str!("../../vectors/fields.txt");
 const MORE: &str = include_str!("../../vectors/more.txt");
 
 /// The line that the proved build gives for a line's making and trace.
@@ -48,8 +49,13 @@ fn base() {
 }
 
 #[test]
+fn fields() {
+    assert_eq!(check(FIELDS), 120);
+}
+
+#[test]
 fn more() {
-    assert_eq!(check(MORE), 41);
+    assert_eq!(check(MORE), 63);
 }
 
 /// The file is what its generator prints, so that neither is changed alone.
