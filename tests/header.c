@@ -1,10 +1,37 @@
-/* include/sildrokk.h as a C host uses it: document 01's first input on part 0, a refused making, and selections as bytes. */
+/* include/sildrokk.h as a C host uses it: document 01's first input on part 0, a refused making, each bad field of an event, and
+   selections as bytes. */
 
 #include "sildrokk.h"
 #include <stdio.h>
 #include <string.h>
 
 static uint8_t memory[4096];
+static uint8_t memory_of_part_3[8192];
+
+/* Whether a run of the trace on part 0 or 3 gives this number, count and offset. */
+static int gives(uint32_t part, const uint8_t *trace, size_t length, uint8_t number, uint8_t count, uint8_t offset)
+{
+    uint8_t *lent = part == 3 ? memory_of_part_3 : memory;
+    size_t size = part == 3 ? sizeof memory_of_part_3 : sizeof memory;
+    const uint8_t count_and_offset[16] = {[7] = count, [15] = offset};
+    uint8_t result[16];
+
+    return sildrokk_run(part, 0, 0, UINT64_MAX, trace, length, lent, size, result, sizeof result) == number
+        && memcmp(result, count_and_offset, sizeof result) == 0;
+}
+
+/* A sample of 32, an expected value of 3 and on part 3 a start address of 8,192: the number says which field is bad, and the offset
+   is that of its first byte. */
+static int fields(void)
+{
+    static const uint8_t sample[] = {0x01, 0x19, 0x04, 0x20};
+    static const uint8_t expected[] = {0x01, 0x19, 0x05, 0x03};
+    static const uint8_t start[] = {0x02, 0x03, 0x00, 0x20, 0x00};
+
+    return gives(0, sample, sizeof sample, 6, 1, 3)
+        && gives(0, expected, sizeof expected, 11, 1, 3)
+        && gives(3, start, sizeof start, 10, 0, 2);
+}
 
 /* RDSR after power on shows 00h, once: byte 1 of two. Then a buffer that is a byte too long. */
 static int selections(void)
@@ -46,6 +73,7 @@ int main(void)
     right &= sildrokk_run(256, 0, 0, UINT64_MAX, trace, sizeof trace, memory, sizeof memory,
                           result, sizeof result) == 1;
     right &= memcmp(result, zeros, sizeof result) == 0;
+    right &= fields();
     right &= selections();
     puts(right ? "header: agrees" : "header: differs");
     return !right;
