@@ -56,11 +56,12 @@ fn differential(part: u32, cases: u64) -> ByteTally {
     tally
 }
 
-/// Most selections are taken, each refusal of theirs is met, and they store and drive.
+/// Most selections are taken, each refusal of theirs is met, and those of bad fields in the trace
+/// before; and they store and drive.
 fn spi(part: u32) {
     let tally = differential(part, 2_400);
     assert!(2 * tally.numbers[0] > tally.selections, "{tally:?}");
-    let refused = [4, 12, 13].map(|number| tally.numbers[number]);
+    let refused = [4, 6, 11, 12, 13].map(|number| tally.numbers[number]);
     assert!(refused.iter().all(|&count| count > 0), "{tally:?}");
     let in_trace = tally.numbers[5..12].iter().filter(|&&count| count > 0);
     assert!(in_trace.count() >= 3, "{tally:?}");
@@ -68,13 +69,14 @@ fn spi(part: u32) {
     assert!(tally.driven > 2 * tally.selections, "{tally:?}");
 }
 
-/// All are refused, mostly with 4.
+/// All are refused, mostly with 4, and with each number of a bad field.
 fn i2c(part: u32) {
     let tally = differential(part, 600);
     assert!(tally.numbers[4] > 300, "{tally:?}");
     let in_trace: u64 = tally.numbers[5..12].iter().sum();
     assert_eq!(tally.numbers[4] + in_trace, 600, "{tally:?}");
-    assert!(in_trace > 0, "{tally:?}");
+    let fields = [6, 10, 11].map(|number| tally.numbers[number]);
+    assert!(fields.iter().all(|&count| count > 0), "{tally:?}");
 }
 
 #[test]
