@@ -22,13 +22,15 @@
  *   and HOLD# on SPI; SCL, SDA without the part's own pull, and WP on I2C. The other bits are 0.
  *   Answers: 0 low, 1 high, 2 nothing driven.
  *
- * Each function returns 0, or the first of these numbers that holds:
+ * Each function returns 0, or the first of these numbers that holds, in this order:
  *
  *   1   no such part, or pins or saved bits that it cannot have
  *   3   memory_length is more or less than the part has
  *   4   no such kind, or the power on of the other bus; of a selection, that the part is on I2C
  *   5   the event's bytes are not all there
- *   6   a sample or expected answer too large, or a start address not below the part's size
+ *   6   a sample too large: 32 or more on SPI, 8 or more on I2C
+ *   10  a start address not below the part's size
+ *   11  an expected answer above 2
  *   7   anything but a power on, without power
  *   8   a power on, under power
  *   9   the part answers something else than expected
@@ -36,8 +38,9 @@
  *   13  output_length is more or less than input_length
  *
  * 1 and 3 are tested first, whatever the trace and the quota; the memory is then untouched, and
- * both numbers of the result are 0. With 4 to 9 of an event the events before it stand. The 4 of a
+ * both numbers of the result are 0. With 4 to 11 of an event the events before it stand. The 4 of a
  * selection, 12 and 13 are tested after the whole trace, in this order, and all of it stands.
+ * 2 is about a state that a host hands in; no function here takes one.
  *
  * The host's duties, which nothing here can test: each pointer is valid for its length and not
  * null, also where the length is 0; and no two of the lent buffers overlap. The functions keep
@@ -59,8 +62,12 @@ extern "C" {
  * lent memory: at most `quota` events, up to the end of the trace or to one that is refused.
  *
  * A result of exactly 16 bytes gets two numbers of eight bytes, high byte first: the count, which
- * is how many events were accepted, and the offset, which is how many bytes these take. A result
- * of another length is left as it is.
+ * is how many events were accepted, and the offset. A result of another length is left as it is.
+ *
+ * The offset is how many bytes the accepted events take, so it is that of the next kind byte, or
+ * trace_length. With three numbers it is that of the first byte of the bad field: with 6 the
+ * sample and with 11 the expected answer, one after the kind byte; with 10 the first of the three
+ * bytes of the start address, two after it.
  */
 uint8_t sildrokk_run(uint32_t part, uint32_t pins, uint32_t bits, uint64_t quota,
                      const uint8_t *trace, size_t trace_length,

@@ -1,4 +1,4 @@
--- One event of a model whose state and memory passed 1 to 3, read as 4 to 6 want it.
+-- One event of a model whose state and memory passed 1 to 3, and whose bytes passed 4, 5, 6, 10 and 11.
 use Prim.Native.Nat.{ℕ}
 use mathlib.Core.Bool.{false, cond}
 use mathlib.Core.List.{List}

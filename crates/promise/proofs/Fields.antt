@@ -1,8 +1,9 @@
--- Which field was wrong and where a run points, by the bytes of the trace: for an event and for a run, on any state and memory, and so
--- after any events from a making. From what the reader finds, kind by kind, and by what holds of every run. Assumes nothing.
+-- The numbers that the bytes of an event get, which field was wrong, and where a run points, by the bytes of the trace: for an event and
+-- for a run, on any state and memory, and so after any events from a making. From what the reader finds, kind by kind, and by what holds of
+-- every run. Assumes nothing.
 use Prim.Native.Nat.{ℕ, zero, suc, _+_, _<_, _≤_}
 use mathlib.Core.Path.{_≡_, refl, sym, ap, _∙_}
-use mathlib.Core.Bool.{Bool, true, false, cond, false≢true}
+use mathlib.Core.Bool.{Bool, true, false, cond, not, false≢true}
 use mathlib.Core.List.{List, [], _∷_}
 use mathlib.Core.Logic.{_⊎_, inl, inr, ⊎-elim}
 use native.Mathlib.Nat.{zero-add, add-assoc}
@@ -10,7 +11,7 @@ use native.Mathlib.Omega.{arith}
 use lib.Dec.{eqb, ltb}
 use lib.ListN.{length, drop, getD}
 use lib.Seq.{drop-drop}
-use borrow.Author.Tests.{eqb-true, ltb-true, ltb-false, ne-eqb}
+use borrow.Author.Tests.{eqb-true, eqb-false, ltb-true, ltb-false, ne-eqb, not-true}
 use Rattle.parts.specs.declared.part.Bus.{Bus}
 use Rattle.parts.specs.declared.part.Bus.the-variants.{Spi, I2c}
 use Rattle.parts.specs.declared.part.Part.{Part}
@@ -34,64 +35,104 @@ use Rattle.runs.proofs.EventLaws.{event-sound, event-stays}
 use Rattle.runs.proofs.RunLaws.{taken, Stops, at-quota, at-end, at-refusal, loop-induction}
 use Rattle.promise.specs.Lists.{modelAfter, memoryAfter}
 use Rattle.promise.specs.Promise.{madeBy}
-use Rattle.promise.specs.Fields.{HasSample, startGiven, BadSample, BadStart, BadExpected, GoodFields, Judged, EventJudged, kindAt, fieldAt, Points, FieldsPromise}
+use Rattle.promise.specs.Fields.{KnownKind, Readable, HasSample, startGiven, BadSample, BadStart, BadExpected, GoodFields, Faultless, Judged, number-0-to-3, number-4, number-5, number-6, number-10, number-11, number-7-to-9, EventJudged, kindAt, fieldAt, Points, FieldsPromise}
 
 -- ---- what the reader finds
 
 -- with what the bytes are in each case
 data Found (p : Part) (t : List ℕ) : Read → Type 0 where
-  whole : {e : Event} {n : ℕ} → GoodFields p t → Found p t (Whole e n)
-  bad-sample : BadSample p t → Found p t (Refused R.SampleRange 1)
-  bad-start : BadStart p t → Found p t (Refused R.StartRange 2)
-  bad-expected : BadExpected t → Found p t (Refused R.ExpectedRange 1)
-  short : Found p t (Refused R.Truncated 0)
-  unknown : Found p t (Refused R.UnknownKind 0)
+  whole : {e : Event} {n : ℕ} → Readable p t → GoodFields p t → Found p t (Whole e n)
+  bad-sample : Readable p t → BadSample p t → Found p t (Refused R.SampleRange 1)
+  bad-start : Readable p t → BadStart p t → Found p t (Refused R.StartRange 2)
+  bad-expected : Readable p t → BadExpected t → Found p t (Refused R.ExpectedRange 1)
+  short : (length t ≡ 0) ⊎ (KnownKind p (getD t 0 0) × (length t < eventLength (getD t 0 0))) → Found p t (Refused R.Truncated 0)
+  unknown : (KnownKind p (getD t 0 0) → ⊥) → Found p t (Refused R.UnknownKind 0)
 
 limit-is : (b : Bus) → cond (isSpi b) 32 8 ≡ sampleLimit b
 limit-is Spi = refl
 limit-is I2c = refl
 
-module _ (p : Part) (t : List ℕ) where
+-- the kinds that the reader knows are those of the bus
+module _ (p : Part) (k : ℕ) where
+  known-if : knownKind (p .bus) k ≡ true → KnownKind p k
+  known-if h = by (eqb k 1) (eqb k 2) (eqb k 3) (eqb k 4) (eqb k 5) refl refl refl refl refl h
+    where
+      by : (a b c d e : Bool) → eqb k 1 ≡ a → eqb k 2 ≡ b → eqb k 3 ≡ c → eqb k 4 ≡ d → eqb k 5 ≡ e
+          → cond a (isSpi (p .bus)) (cond b (not (isSpi (p .bus))) (cond c true (cond d true (cond e true false)))) ≡ true → KnownKind p k
+      by true b c d e x y z u v h = inl (eqb-true k 1 x, h)
+      by false true c d e x y z u v h = inr (inl (eqb-true k 2 y, not-true (isSpi (p .bus)) h))
+      by false false true d e x y z u v h = let w = eqb-true k 3 z in inr (inr (omega arith, omega arith))
+      by false false false true e x y z u v h = let w = eqb-true k 4 u in inr (inr (omega arith, omega arith))
+      by false false false false true x y z u v h = let w = eqb-true k 5 v in inr (inr (omega arith, omega arith))
+      by false false false false false x y z u v h = absurd (false≢true h)
+
+  -- no kind of the bus is missing
+  none-left : (k ≡ 1 → ⊥) → (k ≡ 2 → ⊥) → (k ≡ 3 → ⊥) → (k ≡ 4 → ⊥) → (k ≡ 5 → ⊥) → KnownKind p k → ⊥
+  none-left a b c d e h =
+      ⊎-elim (λ z. a (z .0)) (λ z. ⊎-elim (λ w. b (w .0)) (λ w. let l = w .0 in let m = w .1 in omega arith) z) h
+
+  known-only : KnownKind p k → knownKind (p .bus) k ≡ true
+  known-only h = by (eqb k 1) (eqb k 2) (eqb k 3) (eqb k 4) (eqb k 5) refl refl refl refl refl
+    where
+      spi : k ≡ 1 → isSpi (p .bus) ≡ true
+      spi e = ⊎-elim (λ z. z .1) (λ z. ⊎-elim (λ w. let n = w .0 in absurd (omega arith)) (λ w. let n = w .0 in absurd (omega arith)) z) h
+
+      i2c : k ≡ 2 → isSpi (p .bus) ≡ false
+      i2c e = ⊎-elim (λ z. let n = z .0 in absurd (omega arith)) (λ z. ⊎-elim (λ w. w .1) (λ w. let n = w .0 in absurd (omega arith)) z) h
+
+      by : (a b c d e : Bool) → eqb k 1 ≡ a → eqb k 2 ≡ b → eqb k 3 ≡ c → eqb k 4 ≡ d → eqb k 5 ≡ e
+          → cond a (isSpi (p .bus)) (cond b (not (isSpi (p .bus))) (cond c true (cond d true (cond e true false)))) ≡ true
+      by true b c d e x y z u v = spi (eqb-true k 1 x)
+      by false true c d e x y z u v = rw (i2c (eqb-true k 2 y))
+      by false false true d e x y z u v = refl
+      by false false false true e x y z u v = refl
+      by false false false false true x y z u v = refl
+      by false false false false false x y z u v =
+          absurd (none-left (eqb-false k 1 x) (eqb-false k 2 y) (eqb-false k 3 z) (eqb-false k 4 u) (eqb-false k 5 v) h)
+
+-- the fields of an event that is all there
+module _ (p : Part) (t : List ℕ) (all : Readable p t) where
   -- a kind with a sample and no other field
-  sample-found : HasSample (getD t 0 0) → (getD t 0 0 ≡ 2 → ⊥) → (getD t 0 0 ≡ 5 → ⊥) → eventLength (getD t 0 0) ≤ length t → (e : Event) (n : ℕ)
+  sample-found : HasSample (getD t 0 0) → (getD t 0 0 ≡ 2 → ⊥) → (getD t 0 0 ≡ 5 → ⊥) → (e : Event) (n : ℕ)
       → Found p t (cond (ltb (getD t 1 0) (sampleLimit (p .bus))) (Whole e n) (Refused R.SampleRange 1))
-  sample-found h no-start no-answer l e n = by (ltb (getD t 1 0) (sampleLimit (p .bus))) refl
+  sample-found h no-start no-answer e n = by (ltb (getD t 1 0) (sampleLimit (p .bus))) refl
     where
       by : (y : Bool) → ltb (getD t 1 0) (sampleLimit (p .bus)) ≡ y → Found p t (cond y (Whole e n) (Refused R.SampleRange 1))
       by true y =
-          whole (record { sample = λ z. rw (limit-is (p .bus)) (ltb-true _ _ y); start = λ z. absurd (no-start z); expected = λ z. absurd (no-answer z) })
-      by false y = bad-sample (record { kind = h; there = l; large = rw (limit-is (p .bus)) (ltb-false _ _ y) })
+          whole all
+          (record { sample = λ z. rw (limit-is (p .bus)) (ltb-true _ _ y); start = λ z. absurd (no-start z); expected = λ z. absurd (no-answer z) })
+      by false y = bad-sample all (record { kind = h; large = rw (limit-is (p .bus)) (ltb-false _ _ y) })
 
   -- 02
-  start-found : getD t 0 0 ≡ 2 → 5 ≤ length t → (e : Event) (n : ℕ)
+  start-found : getD t 0 0 ≡ 2 → (e : Event) (n : ℕ)
       → Found p t (cond (ltb (getD t 1 0) (sampleLimit (p .bus))) (cond (ltb (startGiven t) (p .size)) (Whole e n) (Refused R.StartRange 2)) (Refused R.SampleRange 1))
-  start-found k l e n = by (ltb (getD t 1 0) (sampleLimit (p .bus))) (ltb (startGiven t) (p .size)) refl refl
+  start-found k e n = by (ltb (getD t 1 0) (sampleLimit (p .bus))) (ltb (startGiven t) (p .size)) refl refl
     where
       by : (y z : Bool) → ltb (getD t 1 0) (sampleLimit (p .bus)) ≡ y → ltb (startGiven t) (p .size) ≡ z
           → Found p t (cond y (cond z (Whole e n) (Refused R.StartRange 2)) (Refused R.SampleRange 1))
       by true true y z =
-          whole (record { sample = λ w. rw (limit-is (p .bus)) (ltb-true _ _ y); start = λ w. ltb-true _ _ z; expected = λ w. absurd (omega arith) })
-      by true false y z =
-          bad-start (record { kind = k; there = l; sample = rw (limit-is (p .bus)) (ltb-true _ _ y); large = ltb-false _ _ z })
-      by false z y w = bad-sample (record { kind = inr (inl k); there = rw k l; large = rw (limit-is (p .bus)) (ltb-false _ _ y) })
+          whole all
+          (record { sample = λ w. rw (limit-is (p .bus)) (ltb-true _ _ y); start = λ w. ltb-true _ _ z; expected = λ w. absurd (omega arith) })
+      by true false y z = bad-start all (record { kind = k; sample = rw (limit-is (p .bus)) (ltb-true _ _ y); large = ltb-false _ _ z })
+      by false z y w = bad-sample all (record { kind = inr (inl k); large = rw (limit-is (p .bus)) (ltb-false _ _ y) })
 
-  -- no kind with a sample
+  -- a kind without a sample
   no-sample : (k : ℕ) → (k ≡ 1 → ⊥) → (k ≡ 2 → ⊥) → (k ≡ 4 → ⊥) → HasSample k → ⊥
   no-sample k a b c h = ⊎-elim a (λ z. ⊎-elim b c z) h
 
   -- 05
-  expected-found : getD t 0 0 ≡ 5 → 2 ≤ length t → (e : Event) (n : ℕ) → Found p t (cond (ltb (getD t 1 0) 3) (Whole e n) (Refused R.ExpectedRange 1))
-  expected-found k l e n = by (ltb (getD t 1 0) 3) refl
+  expected-found : getD t 0 0 ≡ 5 → (e : Event) (n : ℕ) → Found p t (cond (ltb (getD t 1 0) 3) (Whole e n) (Refused R.ExpectedRange 1))
+  expected-found k e n = by (ltb (getD t 1 0) 3) refl
     where
       by : (y : Bool) → ltb (getD t 1 0) 3 ≡ y → Found p t (cond y (Whole e n) (Refused R.ExpectedRange 1))
       by true y =
-          whole
+          whole all
           (record {
             sample = λ z. absurd (no-sample (getD t 0 0) (λ w. omega arith) (λ w. omega arith) (λ w. omega arith) z);
             start = λ z. absurd (omega arith);
             expected = λ z. ltb-true _ _ y;
           })
-      by false y = bad-expected (record { kind = k; there = l; large = ltb-false _ _ y })
+      by false y = bad-expected all (record { kind = k; large = ltb-false _ _ y })
 
   -- 03
   no-field : getD t 0 0 ≡ 3 → GoodFields p t
@@ -102,97 +143,57 @@ module _ (p : Part) (t : List ℕ) where
         expected = λ z. absurd (omega arith);
       }
 
-  fields-found : knownKind (p .bus) (getD t 0 0) ≡ true → eventLength (getD t 0 0) ≤ length t
-      → Found p t (fieldsRead p (parsedEvent (getD t 0 0) t) (eventLength (getD t 0 0)))
-  fields-found h l =
+  fields-found : Found p t (fieldsRead p (parsedEvent (getD t 0 0) t) (eventLength (getD t 0 0)))
+  fields-found =
       by (eqb (getD t 0 0) 1) (eqb (getD t 0 0) 2) (eqb (getD t 0 0) 3) (eqb (getD t 0 0) 4) (eqb (getD t 0 0) 5) refl refl refl refl refl
     where
       by : (a b c d e : Bool) → eqb (getD t 0 0) 1 ≡ a → eqb (getD t 0 0) 2 ≡ b → eqb (getD t 0 0) 3 ≡ c → eqb (getD t 0 0) 4 ≡ d → eqb (getD t 0 0) 5 ≡ e
           → Found p t (fieldsRead p (parsedEvent (getD t 0 0) t) (eventLength (getD t 0 0)))
       by true b c d e x y z u v =
           let k = eqb-true (getD t 0 0) 1 x in
-          rw k (sample-found (inl k) (λ w. omega arith) (λ w. omega arith) l _ _)
-      by false true c d e x y z u v = let k = eqb-true (getD t 0 0) 2 y in rw k (start-found k (rw k at l) _ _)
-      by false false true d e x y z u v = let k = eqb-true (getD t 0 0) 3 z in rw k (whole (no-field k))
+          rw k (sample-found (inl k) (λ w. omega arith) (λ w. omega arith) _ _)
+      by false true c d e x y z u v = let k = eqb-true (getD t 0 0) 2 y in rw k (start-found k _ _)
+      by false false true d e x y z u v = let k = eqb-true (getD t 0 0) 3 z in rw k (whole all (no-field k))
       by false false false true e x y z u v =
           let k = eqb-true (getD t 0 0) 4 u in
-          rw k (sample-found (inr (inr k)) (λ w. omega arith) (λ w. omega arith) l _ _)
-      by false false false false true x y z u v = let k = eqb-true (getD t 0 0) 5 v in rw k (expected-found k (rw k at l) _ _)
-      by false false false false false x y z u v = absurd (false≢true (rw (x, y, z, u, v) at h))
+          rw k (sample-found (inr (inr k)) (λ w. omega arith) (λ w. omega arith) _ _)
+      by false false false false true x y z u v = let k = eqb-true (getD t 0 0) 5 v in rw k (expected-found k _ _)
+      by false false false false false x y z u v =
+          absurd
+          (none-left p (getD t 0 0) (eqb-false _ 1 x) (eqb-false _ 2 y) (eqb-false _ 3 z) (eqb-false _ 4 u) (eqb-false _ 5 v) (all .known))
 
+module _ (p : Part) (t : List ℕ) where
   found : Found p t (readOf p t)
   unfolding readOf
   found =
-      by (eqb (length t) 0) (knownKind (p .bus) (getD t 0 0)) (ltb (length t) (eventLength (getD t 0 0))) refl refl
+      by (eqb (length t) 0) (knownKind (p .bus) (getD t 0 0)) (ltb (length t) (eventLength (getD t 0 0))) refl refl refl
     where
-      by : (a b c : Bool) → knownKind (p .bus) (getD t 0 0) ≡ b → ltb (length t) (eventLength (getD t 0 0)) ≡ c
+      by : (a b c : Bool) → eqb (length t) 0 ≡ a → knownKind (p .bus) (getD t 0 0) ≡ b → ltb (length t) (eventLength (getD t 0 0)) ≡ c
           → Found p t (cond a (Refused R.Truncated 0) (cond b (cond c (Refused R.Truncated 0) (fieldsRead p (parsedEvent (getD t 0 0) t) (eventLength (getD t 0 0)))) (Refused R.UnknownKind 0)))
-      by true b c h l = short
-      by false false c h l = unknown
-      by false true true h l = short
-      by false true false h l = fields-found h (ltb-false (length t) (eventLength (getD t 0 0)) l)
+      by true b c x h l = short (inl (eqb-true (length t) 0 x))
+      by false false c x h l = unknown (λ z. false≢true (sym h ∙ known-only p (getD t 0 0) z))
+      by false true true x h l = short (inr (known-if p (getD t 0 0) h, ltb-true (length t) (eventLength (getD t 0 0)) l))
+      by false true false x h l =
+          fields-found p t (record { known = known-if p (getD t 0 0) h; there = ltb-false (length t) (eventLength (getD t 0 0)) l })
 
   -- ---- the number that follows
-
-  -- a number before those of the fields
-  early : (n : ℕ) → n ≤ 5 → Judged p t n
-  early n l =
-      record {
-        sample = λ z. absurd (omega arith);
-        start = λ z. absurd (omega arith);
-        expected = λ z. absurd (omega arith);
-        good = λ a b. absurd (omega arith);
-        eleven = omega arith;
-      }
 
   -- a refusal is no accepted event
   refused-judged : (n : ℕ) → 0 < n → Judged p t n → EventJudged p t n
   refused-judged n l j = record { judged = j; accepted = λ z. absurd (omega arith) }
 
   module _ (s : Model) (m : List ℕ) where
-    done-judged : {o : Outcome} → Done s m o → GoodFields p t → EventJudged p t (o .result .number)
-    done-judged (refused-with n l h) g =
-        refused-judged n (omega arith)
-        (record {
-          sample = λ z. absurd (omega arith);
-          start = λ z. absurd (omega arith);
-          expected = λ z. absurd (omega arith);
-          good = λ a b. g;
-          eleven = omega arith;
-        })
-    done-judged (accepted-as a x left u v) g = record { judged = early 0 (omega arith); accepted = λ z. g }
+    done-judged : {o : Outcome} → Done s m o → Faultless p t → EventJudged p t (o .result .number)
+    done-judged (refused-with n l h) g = refused-judged n (omega arith) (number-7-to-9 n l h g)
+    done-judged (accepted-as a x left u v) g = record { judged = number-0-to-3 0 (omega arith); accepted = λ z. g }
 
     read-judged : (r : Read) → Found p t r → EventJudged p t (onRead r s m .result .number)
-    read-judged (Whole e n) (whole g) = done-judged (done s m e) g
-    read-judged (Refused R.SampleRange place) (bad-sample b) =
-        refused-judged 6 (omega arith)
-        (record {
-          sample = λ z. b;
-          start = λ z. absurd (omega arith);
-          expected = λ z. absurd (omega arith);
-          good = λ x y. absurd (omega arith);
-          eleven = omega arith;
-        })
-    read-judged (Refused R.StartRange place) (bad-start b) =
-        refused-judged 10 (omega arith)
-        (record {
-          sample = λ z. absurd (omega arith);
-          start = λ z. b;
-          expected = λ z. absurd (omega arith);
-          good = λ x y. absurd (omega arith);
-          eleven = omega arith;
-        })
-    read-judged (Refused R.ExpectedRange place) (bad-expected b) =
-        refused-judged 11 (omega arith)
-        (record {
-          sample = λ z. absurd (omega arith);
-          start = λ z. absurd (omega arith);
-          expected = λ z. b;
-          good = λ x y. absurd (omega arith);
-          eleven = omega arith;
-        })
-    read-judged (Refused R.Truncated place) short = refused-judged 5 (omega arith) (early 5 (omega arith))
-    read-judged (Refused R.UnknownKind place) unknown = refused-judged 4 (omega arith) (early 4 (omega arith))
+    read-judged (Whole e n) (whole r g) = done-judged (done s m e) (record { readable = r; good = g })
+    read-judged (Refused R.SampleRange place) (bad-sample r b) = refused-judged 6 (omega arith) (number-6 r b)
+    read-judged (Refused R.StartRange place) (bad-start r b) = refused-judged 10 (omega arith) (number-10 r b)
+    read-judged (Refused R.ExpectedRange place) (bad-expected r b) = refused-judged 11 (omega arith) (number-11 r b)
+    read-judged (Refused R.Truncated place) (short b) = refused-judged 5 (omega arith) (number-5 b)
+    read-judged (Refused R.UnknownKind place) (unknown b) = refused-judged 4 (omega arith) (number-4 b)
 
     -- where the reader points is where the number's field begins
     done-placed : {o : Outcome} → Done s m o → 0 ≡ fieldAt (o .result .number)
@@ -201,12 +202,12 @@ module _ (p : Part) (t : List ℕ) where
     done-placed (accepted-as a x left u v) = refl
 
     read-placed : (r : Read) → Found p t r → placeOf r ≡ fieldAt (onRead r s m .result .number)
-    read-placed (Whole e n) (whole g) = done-placed (done s m e)
-    read-placed (Refused R.SampleRange place) (bad-sample b) = refl
-    read-placed (Refused R.StartRange place) (bad-start b) = refl
-    read-placed (Refused R.ExpectedRange place) (bad-expected b) = refl
-    read-placed (Refused R.Truncated place) short = refl
-    read-placed (Refused R.UnknownKind place) unknown = refl
+    read-placed (Whole e n) (whole r g) = done-placed (done s m e)
+    read-placed (Refused R.SampleRange place) (bad-sample r b) = refl
+    read-placed (Refused R.StartRange place) (bad-start r b) = refl
+    read-placed (Refused R.ExpectedRange place) (bad-expected r b) = refl
+    read-placed (Refused R.Truncated place) (short b) = refl
+    read-placed (Refused R.UnknownKind place) (unknown b) = refl
 
 -- state and memory give 1, 2 or 3
 abbrev Early : Verdict → Type 0
@@ -231,7 +232,7 @@ event-judged s m t = by (checkOf s (length m)) (check-early s (length m))
   where
     by : (v : Verdict) → Early v → EventJudged (partOf (s .part)) t (eventOnVerdict v s m t .result .number)
     by Passed k = read-judged (partOf (s .part)) t s m (readOf (partOf (s .part)) t) (found (partOf (s .part)) t)
-    by (Failed r) k = refused-judged (partOf (s .part)) t (refusalNumber r) (k .0) (early (partOf (s .part)) t (refusalNumber r) (omega (arith, k .1)))
+    by (Failed r) k = refused-judged (partOf (s .part)) t (refusalNumber r) (k .0) (number-0-to-3 (refusalNumber r) (k .1))
 
 -- ---- a run
 
@@ -240,7 +241,7 @@ points-here : (p : Part) (t : List ℕ) (n place : ℕ) (s : Model) (m : List �
 points-here p t n place s m j e = record { accepted = λ i l. absurd (omega arith); judged = j; offset = rw e (sym (zero-add (fieldAt n))) }
 
 -- one accepted event before a run
-points-after : (p : Part) (t : List ℕ) (a : ℕ) (r : Run) → GoodFields p t → Points p (drop (taken t) t) r → Points p t (after a (taken t) r)
+points-after : (p : Part) (t : List ℕ) (a : ℕ) (r : Run) → Faultless p t → Points p (drop (taken t) t) r → Points p t (after a (taken t) r)
 points-after p t a r g k =
     let more : 1 + r .count ≡ suc (r .count) = omega arith in
     record {
@@ -249,7 +250,7 @@ points-after p t a r g k =
       offset = rw (more, k .offset, add-assoc);
     }
   where
-    each : (i : ℕ) → i < 1 + r .count → GoodFields p (drop (kindAt i t) t)
+    each : (i : ℕ) → i < 1 + r .count → Faultless p (drop (kindAt i t) t)
     each zero l = g
     each (suc i) l = rw (← drop-drop) (k .accepted i (omega arith))
 
@@ -258,8 +259,8 @@ Pointing q t s m r = Sound s m → Points (partOf (s .part)) t r
 
 stops-point : (q n place : ℕ) (t : List ℕ) (s : Model) (m : List ℕ) → Stops t s m q n place → Pointing q t s m (stopAt n place s m)
 unfolding eventOf
-stops-point q n place t s m at-quota sound = points-here (partOf (s .part)) t 0 0 s m (early (partOf (s .part)) t 0 (omega arith)) refl
-stops-point q n place t s m (at-end z) sound = points-here (partOf (s .part)) t 0 0 s m (early (partOf (s .part)) t 0 (omega arith)) refl
+stops-point q n place t s m at-quota sound = points-here (partOf (s .part)) t 0 0 s m (number-0-to-3 0 (omega arith)) refl
+stops-point q n place t s m (at-end z) sound = points-here (partOf (s .part)) t 0 0 s m (number-0-to-3 0 (omega arith)) refl
 stops-point q n place t s m (at-refusal some not-0) sound =
     points-here (partOf (s .part)) t _ _ s m (event-judged s m t .judged)
     (rw sound (read-placed (partOf (s .part)) t s m (readOf (partOf (s .part)) t) (found (partOf (s .part)) t)))
@@ -281,7 +282,7 @@ run-points q t s m = by (checkOf s (length m)) refl (check-early s (length m))
     by : (v : Verdict) → checkOf s (length m) ≡ v → Early v → Points (partOf (s .part)) t (runOnVerdict v q t s m)
     by Passed e k = loop-induction Pointing stops-point goes-on-pointing q t s m e
     by (Failed r) e k =
-        points-here (partOf (s .part)) t (refusalNumber r) 0 s m (early (partOf (s .part)) t (refusalNumber r) (omega (arith, k .1))) (none (refusalNumber r) (k .1))
+        points-here (partOf (s .part)) t (refusalNumber r) 0 s m (number-0-to-3 (refusalNumber r) (k .1)) (none (refusalNumber r) (k .1))
 
 -- ---- from a making
 

@@ -1,8 +1,8 @@
--- Which field of an event was wrong and where a run points, said of the bytes of the trace alone: a kind byte, then the fields that
--- document 01 lists for it under 'Models and events' (document 02, ask 1).
+-- The numbers that the bytes of an event get, which field was wrong, and where a run points: said of the bytes of the trace alone, a kind
+-- byte and then the fields that document 01 lists for it under 'Models and events' (document 02, ask 1).
 use Prim.Native.Nat.{ℕ, zero, suc, _+_, _*_, _<_, _≤_}
 use mathlib.Core.Path.{_≡_}
-use mathlib.Core.Bool.{cond}
+use mathlib.Core.Bool.{true, false, cond}
 use mathlib.Core.List.{List}
 use mathlib.Core.Logic.{_⊎_}
 use lib.Dec.{eqb}
@@ -17,6 +17,15 @@ use Rattle.promise.specs.Promise.{madeBy}
 
 -- ---- the event at the front of some bytes t
 
+-- the kinds that the part's bus has: 01 on SPI, 02 on I2C, 03 to 05 on both
+abbrev pub KnownKind : Part → ℕ → Type 0
+KnownKind p k = ((k ≡ 1) × (isSpi (p .bus) ≡ true)) ⊎ (((k ≡ 2) × (isSpi (p .bus) ≡ false)) ⊎ ((3 ≤ k) × (k ≤ 5)))
+
+-- one of these, with all its bytes
+pub record Readable (p : Part) (t : List ℕ) : Type 0 where
+  pub known : KnownKind p (getD t 0 0)
+  pub there : eventLength (getD t 0 0) ≤ length t
+
 -- the kinds with a sample, which comes right after the kind byte: 01, 02 and 04
 abbrev pub HasSample : ℕ → Type 0
 HasSample k = (k ≡ 1) ⊎ ((k ≡ 2) ⊎ (k ≡ 4))
@@ -29,23 +38,20 @@ samples p = cond (isSpi (p .bus)) 32 8
 abbrev pub startGiven : List ℕ → ℕ
 startGiven t = 65536 * getD t 2 0 + 256 * getD t 3 0 + getD t 4 0
 
--- a whole event whose sample is too large, whatever comes after the sample
+-- the sample is too large, whatever comes after it
 pub record BadSample (p : Part) (t : List ℕ) : Type 0 where
   pub kind : HasSample (getD t 0 0)
-  pub there : eventLength (getD t 0 0) ≤ length t
   pub large : samples p ≤ getD t 1 0
 
--- one whose sample is in range and whose start address is not
+-- the sample is in range, the start address is not
 pub record BadStart (p : Part) (t : List ℕ) : Type 0 where
   pub kind : getD t 0 0 ≡ 2
-  pub there : 5 ≤ length t
   pub sample : getD t 1 0 < samples p
   pub large : p .size ≤ startGiven t
 
--- one that expects no answer that there is
+-- there is no such answer as the expected one
 pub record BadExpected (t : List ℕ) : Type 0 where
   pub kind : getD t 0 0 ≡ 5
-  pub there : 2 ≤ length t
   pub large : 3 ≤ getD t 1 0
 
 -- every field that the event has is in range
@@ -54,20 +60,28 @@ pub record GoodFields (p : Part) (t : List ℕ) : Type 0 where
   pub start : getD t 0 0 ≡ 2 → startGiven t < p .size
   pub expected : getD t 0 0 ≡ 5 → getD t 1 0 < 3
 
+-- no fault in the bytes
+pub record Faultless (p : Part) (t : List ℕ) : Type 0 where
+  pub readable : Readable p t
+  pub good : GoodFields p t
+
 -- ---- the number that it gets
 
--- 6, 10 and 11 are given for these fields alone, and 7, 8 and 9 only where every field is in range; there are eleven numbers
-pub record Judged (p : Part) (t : List ℕ) (n : ℕ) : Type 0 where
-  pub sample : n ≡ 6 → BadSample p t
-  pub start : n ≡ 10 → BadStart p t
-  pub expected : n ≡ 11 → BadExpected t
-  pub good : 7 ≤ n → n ≤ 9 → GoodFields p t
-  pub eleven : n ≤ 11
+-- each of 4, 5, 6, 10 and 11 for its own fault, and 7, 8 and 9 where there is none. 0 to 3 say nothing of the bytes, and no other number
+-- than these is given: eleven beside 0
+pub data Judged (p : Part) (t : List ℕ) : ℕ → Type 0 where
+  number-0-to-3 : (n : ℕ) → n ≤ 3 → Judged p t n
+  number-4 : (KnownKind p (getD t 0 0) → ⊥) → Judged p t 4
+  number-5 : (length t ≡ 0) ⊎ (KnownKind p (getD t 0 0) × (length t < eventLength (getD t 0 0))) → Judged p t 5
+  number-6 : Readable p t → BadSample p t → Judged p t 6
+  number-10 : Readable p t → BadStart p t → Judged p t 10
+  number-11 : Readable p t → BadExpected t → Judged p t 11
+  number-7-to-9 : (n : ℕ) → 7 ≤ n → n ≤ 9 → Faultless p t → Judged p t n
 
--- a single event: accepted, its fields are in range too
+-- a single event; one that is accepted is without such a fault
 pub record EventJudged (p : Part) (t : List ℕ) (n : ℕ) : Type 0 where
   pub judged : Judged p t n
-  pub accepted : n ≡ 0 → GoodFields p t
+  pub accepted : n ≡ 0 → Faultless p t
 
 -- ---- where a run points
 
@@ -82,8 +96,8 @@ fieldAt n = cond (eqb n 6) 1 (cond (eqb n 10) 2 (cond (eqb n 11) 1 0))
 
 -- the run r of the trace t
 pub record Points (p : Part) (t : List ℕ) (r : Run) : Type 0 where
-  -- the fields of each accepted event are in range
-  pub accepted : (i : ℕ) → i < r .count → GoodFields p (drop (kindAt i t) t)
+  -- each accepted event is without a fault in its bytes
+  pub accepted : (i : ℕ) → i < r .count → Faultless p (drop (kindAt i t) t)
   -- the next one got the run's number
   pub judged : Judged p (drop (kindAt (r .count) t) t) (r .number)
   -- and the offset is that of its bad field, or of its kind byte if none is bad or there is no such event
