@@ -64,10 +64,10 @@ extern "C" {
  * A result of exactly 16 bytes gets two numbers of eight bytes, high byte first: the count, which
  * is how many events were accepted, and the offset. A result of another length is left as it is.
  *
- * The offset is how many bytes the accepted events take, so it is that of the next kind byte, or
- * trace_length. With three numbers it is that of the first byte of the bad field: with 6 the
- * sample and with 11 the expected answer, one after the kind byte; with 10 the first of the three
- * bytes of the start address, two after it.
+ * With 6, 10 and 11 the offset is that of the first byte of the bad field: with 6 the sample and
+ * with 11 the expected answer, one after the kind byte; with 10 the first of the three bytes of the
+ * start address, two after it. Else it is how many bytes the accepted events take, so that of the
+ * next kind byte, or trace_length.
  */
 uint8_t sildrokk_run(uint32_t part, uint32_t pins, uint32_t bits, uint64_t quota,
                      const uint8_t *trace, size_t trace_length,
@@ -95,8 +95,8 @@ uint8_t sildrokk_replay(uint32_t part, uint32_t pins, uint32_t bits, uint64_t qu
  * SCK that took the bit in the same place, and 1 where the part drove nothing.
  *
  * A result of exactly 16 bytes gets two numbers as above: the index of the first driven byte and
- * how many are driven, or input_length and 0 if none is. If the call is refused both are 0, and
- * output is left as it is.
+ * how many are driven, or input_length and 0 if none is. If the call is refused both are 0, also
+ * where an event of the trace is, and output is left as it is.
  *
  * The model ends with the call. What a selection leaves behind other than in memory, such as an
  * enable, is there for the next one if the trace of the next call has this one, as samples. That

@@ -6,7 +6,7 @@ use Rattle.parts.specs.declared.answer.Answer.the-variants.{Low, High, H
 use Rattle.parts.specs.declared.refusal.Refusal.{Refusal}
 use Rattle.parts.specs.declared.refusal.Refusal.the-variants.{ModelRange, StateRange, MemoryLength, UnknownKind, Truncated, SampleRange, StartRange, ExpectedRange, Unpowered, Powered, Unexpected, NotDeselected, BufferLength}
 
--- 'Numbers given back', in the order in which they are tested
+-- 'Numbers given back' of document 01, and 10 to 13 of document 02, in the order in which they are tested
 abbrev pub refusalNumber : Refusal → ℕ
 refusalNumber ModelRange = 1
 refusalNumber StateRange = 2

@@ -9,7 +9,6 @@ use lib.Dec.{eqb}
 use lib.ListN.{length, drop, getD}
 use Rattle.parts.specs.declared.part.Part.{Part}
 use Rattle.parts.specs.Table.{isSpi, partOf}
-use Rattle.trace.specs.Read.{eventLength}
 use Rattle.runs.specs.Event.{eventOf}
 use Rattle.runs.specs.Run.{Run, runOf}
 use Rattle.promise.specs.Lists.{modelAfter, memoryAfter}
@@ -21,10 +20,14 @@ use Rattle.promise.specs.Promise.{madeBy}
 abbrev pub KnownKind : Part → ℕ → Type 0
 KnownKind p k = ((k ≡ 1) × (isSpi (p .bus) ≡ true)) ⊎ (((k ≡ 2) × (isSpi (p .bus) ≡ false)) ⊎ ((3 ≤ k) × (k ≤ 5)))
 
--- one of these, with all its bytes
+-- how many bytes the event of a kind has, its kind byte included
+abbrev pub lengthGiven : ℕ → ℕ
+lengthGiven k = cond (eqb k 2) 5 (cond (eqb k 3) 1 2)
+
+-- one of these kinds, with all its bytes
 pub record Readable (p : Part) (t : List ℕ) : Type 0 where
   pub known : KnownKind p (getD t 0 0)
-  pub there : eventLength (getD t 0 0) ≤ length t
+  pub there : lengthGiven (getD t 0 0) ≤ length t
 
 -- the kinds with a sample, which comes right after the kind byte: 01, 02 and 04
 abbrev pub HasSample : ℕ → Type 0
@@ -67,20 +70,24 @@ pub record Faultless (p : Part) (t : List ℕ) : Type 0 where
 
 -- ---- the number that it gets
 
--- each of 4, 5, 6, 10 and 11 for its own fault, and 7, 8 and 9 where there is none. 0 to 3 say nothing of the bytes, and no other number
--- than these is given: eleven beside 0
-pub data Judged (p : Part) (t : List ℕ) : ℕ → Type 0 where
-  number-0-to-3 : (n : ℕ) → n ≤ 3 → Judged p t n
-  number-4 : (KnownKind p (getD t 0 0) → ⊥) → Judged p t 4
-  number-5 : (length t ≡ 0) ⊎ (KnownKind p (getD t 0 0) × (length t < eventLength (getD t 0 0))) → Judged p t 5
-  number-6 : Readable p t → BadSample p t → Judged p t 6
-  number-10 : Readable p t → BadStart p t → Judged p t 10
-  number-11 : Readable p t → BadExpected t → Judged p t 11
-  number-7-to-9 : (n : ℕ) → 7 ≤ n → n ≤ 9 → Faultless p t → Judged p t n
+-- on a part in a state that a host can be given, with a memory of l bytes. 3 is for the memory; each of 4, 5, 6, 10 and 11 is for its own
+-- fault of the bytes; 7, 8 and 9, which are for power and answer, come only where there is none. Any other number is never given, and 1
+-- and 2 not for such a state
+pub data Judged (p : Part) (l : ℕ) (t : List ℕ) : ℕ → Type 0 where
+  number-0 : Judged p l t 0
+  number-3 : (l ≡ p .size → ⊥) → Judged p l t 3
+  number-4 : 0 < length t → (KnownKind p (getD t 0 0) → ⊥) → Judged p l t 4
+  number-5 : (length t ≡ 0) ⊎ (KnownKind p (getD t 0 0) × (length t < lengthGiven (getD t 0 0))) → Judged p l t 5
+  number-6 : Readable p t → BadSample p t → Judged p l t 6
+  number-10 : Readable p t → BadStart p t → Judged p l t 10
+  number-11 : Readable p t → BadExpected t → Judged p l t 11
+  number-7 : Faultless p t → 3 ≤ getD t 0 0 → Judged p l t 7
+  number-8 : Faultless p t → getD t 0 0 ≤ 2 → Judged p l t 8
+  number-9 : Faultless p t → getD t 0 0 ≡ 5 → Judged p l t 9
 
--- a single event; one that is accepted is without such a fault
-pub record EventJudged (p : Part) (t : List ℕ) (n : ℕ) : Type 0 where
-  pub judged : Judged p t n
+-- a single event; one that is accepted has no fault in its bytes
+pub record EventJudged (p : Part) (l : ℕ) (t : List ℕ) (n : ℕ) : Type 0 where
+  pub judged : Judged p l t n
   pub accepted : n ≡ 0 → Faultless p t
 
 -- ---- where a run points
@@ -88,23 +95,25 @@ pub record EventJudged (p : Part) (t : List ℕ) (n : ℕ) : Type 0 where
 -- where the kind byte of event number i stands, counted from 0: after the bytes of those before it
 abbrev pub kindAt : ℕ → List ℕ → ℕ
 kindAt zero t = 0
-kindAt (suc i) t = eventLength (getD t 0 0) + kindAt i (drop (eventLength (getD t 0 0)) t)
+kindAt (suc i) t = lengthGiven (getD t 0 0) + kindAt i (drop (lengthGiven (getD t 0 0)) t)
 
 -- how far from there the field of a number begins: a sample or an expected answer one byte on, a start address two
 abbrev pub fieldAt : ℕ → ℕ
 fieldAt n = cond (eqb n 6) 1 (cond (eqb n 10) 2 (cond (eqb n 11) 1 0))
 
--- the run r of the trace t
-pub record Points (p : Part) (t : List ℕ) (r : Run) : Type 0 where
-  -- each accepted event is without a fault in its bytes
+-- the run r of the trace t, with a memory of l bytes
+pub record Points (p : Part) (l : ℕ) (t : List ℕ) (r : Run) : Type 0 where
+  -- no accepted event has a fault in its bytes
   pub accepted : (i : ℕ) → i < r .count → Faultless p (drop (kindAt i t) t)
   -- the next one got the run's number
-  pub judged : Judged p (drop (kindAt (r .count) t) t) (r .number)
-  -- and the offset is that of its bad field, or of its kind byte if none is bad or there is no such event
+  pub judged : Judged p l (drop (kindAt (r .count) t) t) (r .number)
+  -- and there is one, if the number is for an event
+  pub there : 4 ≤ r .number → kindAt (r .count) t < length t
+  -- the offset is that of its bad field, else of its kind byte or past the last event
   pub offset : r .offset ≡ kindAt (r .count) t + fieldAt (r .number)
 
 -- ---- from a making, after any events: one event more, and a run
 
 pub record FieldsPromise (part pins bits : ℕ) (first : List ℕ) (es : List (List ℕ)) (quota : ℕ) (t : List ℕ) : Type 0 where
-  pub event : EventJudged (partOf (madeBy part pins bits .part)) t (eventOf (modelAfter (madeBy part pins bits) first es) (memoryAfter (madeBy part pins bits) first es) t .result .number)
-  pub run : Points (partOf (madeBy part pins bits .part)) t (runOf quota t (modelAfter (madeBy part pins bits) first es) (memoryAfter (madeBy part pins bits) first es))
+  pub event : EventJudged (partOf (madeBy part pins bits .part)) (length (memoryAfter (madeBy part pins bits) first es)) t (eventOf (modelAfter (madeBy part pins bits) first es) (memoryAfter (madeBy part pins bits) first es) t .result .number)
+  pub run : Points (partOf (madeBy part pins bits .part)) (length (memoryAfter (madeBy part pins bits) first es)) t (runOf quota t (modelAfter (madeBy part pins bits) first es) (memoryAfter (madeBy part pins bits) first es))

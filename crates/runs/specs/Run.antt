@@ -14,9 +14,9 @@ use Rattle.chip.specs.Check.{checkOf}
 use Rattle.runs.specs.declared.run.Ran.{Ran}
 use Rattle.runs.specs.Event.{eventOf}
 
--- number or 0, state, how many events were accepted, the offset, memory, and their answers. The offset is how many bytes the accepted
--- events take, which is where the kind byte of the next one stands, or the trace's length; with 6, 10 or 11 it is that of the first byte
--- of the bad field (document 02, ask 1)
+-- number or 0, state, how many events were accepted, the offset, memory, and their answers. With 6, 10 and 11 the offset is that of the
+-- first byte of the bad field (document 02, ask 1), else how many bytes the accepted events take: there stands the kind byte of the next
+-- one, or the trace ends
 pub record Run : Type 0 where
   pub number : ℕ
   pub model : Model

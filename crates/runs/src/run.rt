@@ -5,8 +5,8 @@ ghost use Rattle.chip.specs.Check.{Sound};
 ghost use Rattle.runs.specs.Run.{ran, ranOf, loopOf};
 use chip::model::Model;
 
-// Number or 0, state, how many events are accepted, and the offset: how many bytes these take, and with 6, 10 and 11 on to the first byte
-// of the bad field.
+// Number or 0, state, how many events are accepted, and the offset: that of the first byte of the bad field with 6, 10 and 11, else how
+// many bytes these events take.
 pub struct Ran {
     pub number: u8,
     pub model: Model,

@@ -19,7 +19,7 @@ use Rattle.steps.specs.declared.other.Other.{Other}
 abbrev pub other : ℕ → Model → ℕ → Other
 other n s o = record { number = n; model = s; offset = o }
 
--- a refusal of the reader, which points at a place in the event
+-- a refusal of the reader, which points at a place in the event; not asked of a whole one
 abbrev pub stoppedBy : Read → Model → ℕ → Other
 stoppedBy (Whole e n) s o = other 0 s o
 stoppedBy (Refused r place) s o = other (refusalNumber r) s (o + place)

@@ -27,7 +27,8 @@ fn ended(number: u8, model: Model, offset: usize) -> Other
     }
 }
 
-// The reader's refusal leaves with its offset: that of the fault, which is the bad field's first byte or the kind byte.
+// The reader's refusal leaves with its offset: that of the fault, which is the bad field's first byte or the kind byte. It is not asked of
+// a whole event.
 fn stopped(read: Read, model: Model, offset: usize) -> Other
     requires { ⌜ offset + placeOf read < 18446744073709551616 ⌝ }
     ensures { λ r. ⌜ r ≡ stoppedBy read model offset ⌝ }

@@ -1,5 +1,5 @@
--- What a whole event says of the bytes that it is read from, that it stays the same with bytes after it, and that a refusal points into
--- its event. Assumes nothing.
+-- What a whole event says of the bytes that it is read from, that it stays the same with bytes after it, and that a refusal points no
+-- further than the bytes go. Assumes nothing.
 use Prim.Native.Nat.{ℕ, _+_, _<_, _≤_}
 use mathlib.Core.Path.{_≡_, refl}
 use mathlib.Core.Bool.{Bool, true, false, cond}
@@ -122,7 +122,7 @@ front-only p t u e n h =
       taken = rw k (s .taken);
     })
 
--- ---- a refusal points into its event
+-- ---- a refusal points no further than the bytes go
 
 -- by the tests for the kinds, which choose both the event and its length
 place-by : (p : Part) (a b c d : Bool) (x y n : ℕ)

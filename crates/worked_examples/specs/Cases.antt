@@ -33,7 +33,7 @@ pub record Case : Type 0 where
   pub steps : List Step
   -- the bytes of the trace after them
   pub rest : List ℕ
-  -- 0, or the number of the refusal at the rest
+  -- 0, or the number of the refusal at the rest: one that points at the kind byte
   pub number : ℕ
   -- the bytes that are written
   pub cells : List Cell

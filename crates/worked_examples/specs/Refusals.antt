@@ -255,8 +255,8 @@ RunStopped x =
     (m : List ℕ) → length m ≡ x .size → (runOf 8 (x .trace) (madeOf (x .part) 0 0) m .number ≡ x .number)
     × ((runOf 8 (x .trace) (madeOf (x .part) 0 0) m .count ≡ x .count) × (runOf 8 (x .trace) (madeOf (x .part) 0 0) m .offset ≡ x .offset))
 
--- after a power on of two or five bytes, a sample and an expected answer: the bad field's first byte for 6, 10 and 11, the kind byte for
--- the others, and the trace's length for 0
+-- after a power on of two or five bytes and up to three other events: the bad field's first byte for 6, 10 and 11, the kind byte for the
+-- others, and the trace's length for 0
 unfoldable pub stoppedRuns : List Stopped
 stoppedRuns =
     stopped 0 4096 (1 ∷ 25 ∷ 4 ∷ 24 ∷ 5 ∷ 2 ∷ 4 ∷ 32 ∷ 3 ∷ []) 6 3 7
