@@ -4,9 +4,9 @@
 use crate::call::Call;
 use crate::refused::{self, power_on, Refused};
 use crate::script::Script;
-use crate::trace::{after, events};
 use crate::{Making, Ran};
 use twin::part::Wires;
+use twin::trace::{after, events};
 use twin::{Part, PARTS};
 
 /// A call and what is to come of it.

@@ -3,12 +3,12 @@
 
 use crate::call::Call;
 use crate::outcome::{first_difference, result_of, Outcome, LEFT};
-use crate::trace::events;
 use crate::{LentBytes, Making, Selected};
 use std::fmt;
 use twin::gen::ByteCase;
 use twin::pins::{bits_back, bytes_back, spelled};
 use twin::text::{first_memory, hex};
+use twin::trace::events;
 use twin::{Model, PARTS};
 
 /// A call of `sildrokk_select`, with the lengths of what it lends to be written. The memory is the

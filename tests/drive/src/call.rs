@@ -3,11 +3,11 @@
 
 use crate::field::{self, bad_field};
 use crate::outcome::{first_difference, result_of, Outcome, LEFT};
-use crate::trace::{after, events};
 use crate::{Lent, Making, Ran};
 use std::fmt;
 use twin::gen::Case;
 use twin::text::{first_memory, hex};
+use twin::trace::{after, events};
 use twin::{Ledger, Model, PARTS};
 
 /// A call, with the lengths of what it lends. The memory is the first memory of the vectors.

@@ -15,7 +15,6 @@ pub mod refused;
 pub mod renumber;
 pub mod script;
 pub mod tally;
-pub mod trace;
 
 pub use archive::{call, call_bytes, Lent, LentBytes};
 pub use twin::{Ran, Selected};

@@ -2,6 +2,7 @@
 //! later in the order of document 01 and ask 1: 4, 5, 6, 10, 11, 7, 8, 9.
 
 use twin::part::Wires;
+use twin::trace::i2c_on;
 use twin::Part;
 
 /// An event that is refused.
@@ -70,10 +71,9 @@ pub fn events(part: &Part) -> Vec<Refused> {
 
 /// A power on of the part's bus; on SPI there is no start address.
 pub fn power_on(part: &Part, sample: u8, start: usize) -> Vec<u8> {
-    let [.., high, middle, low] = start.to_be_bytes();
     match part.wires {
         Wires::Spi => vec![1, sample],
-        Wires::I2c => vec![2, sample, high, middle, low],
+        Wires::I2c => i2c_on(sample, start as u32).into(),
     }
 }
 
@@ -111,8 +111,8 @@ fn samples(part: &Part) -> Vec<Vec<u8>> {
     all
 }
 
-/// Start addresses not below the size, one of them with no bit set in its two low bytes; only I2C has
-/// them.
+/// Start addresses not below the size, among them one with no bit set in its two low bytes; only I2C
+/// has them.
 fn starts(part: &Part) -> Vec<Vec<u8>> {
     let with = |start| [0, part.max_sample()].map(|sample| power_on(part, sample, start));
     match part.wires {

@@ -3,9 +3,9 @@
 //! is, the trace's bytes tell.
 
 use crate::field::{self, bad_field, BadField};
-use crate::trace::after;
 use std::fmt;
 use twin::text::Line;
+use twin::trace::after;
 use twin::PARTS;
 
 /// A text of vectors with what was changed in it.

@@ -2,6 +2,7 @@
 //! events an answer is to be looked at, since a run is one call and its answers come at the end.
 
 use twin::part::{i2c_pin, spi_pin};
+use twin::trace::i2c_on;
 use twin::PARTS;
 
 /// The events at which the eight bits of a byte are shown, most significant first.
@@ -137,8 +138,7 @@ impl Script {
     /// Power on, at rest.
     pub fn i2c_on(&mut self, start: u32) {
         self.others = 0;
-        let [_, high, middle, low] = start.to_be_bytes();
-        self.event(&[2, i2c_pin::SCL | i2c_pin::SDA, high, middle, low]);
+        self.event(&i2c_on(i2c_pin::SCL | i2c_pin::SDA, start));
     }
 
     /// SDA falls with SCL high.

@@ -2,9 +2,9 @@
 
 use crate::byte_call::BytesAgreed;
 use crate::call::Agreed;
-use crate::trace::events;
 use std::fmt;
 use twin::part::Wires;
+use twin::trace::events;
 use twin::Part;
 
 #[derive(Clone, Debug, Default)]

@@ -3,12 +3,12 @@
 //! starts; no model of the twin is asked. Then lists of selections as bytes, cut after each.
 
 use drive::script::{self, Script};
-use drive::trace::events;
 use drive::Making;
 use twin::gen::{self, Case, Rng};
 use twin::part::Wires;
 use twin::pins::spelled;
 use twin::text::first_memory;
+use twin::trace::events;
 use twin::{Ledger, Part, PARTS};
 
 /// A trace on the proved build, from the first memory.

@@ -2,9 +2,8 @@
 
 use drive::bad::{self, Bad};
 use drive::bad_bytes;
-use drive::trace::after;
+use drive::tally::refusals;
 use std::collections::BTreeSet;
-use twin::part::Wires;
 use twin::{Part, PARTS};
 
 /// What is given back is written in the table; all else is compared with the twin, for which a
@@ -26,41 +25,34 @@ fn of_part(part: &Part) -> Vec<Bad> {
     calls
 }
 
-/// The table has what it is for on each part: each number, and good calls that store.
+/// Each number is in the table: those of an event at the front of a trace, where 8 and 9 cannot be,
+/// and after a stored byte. Whether they and their offsets are right, `every_bad_call` tells.
 #[test]
-fn the_table_is_not_empty() {
+fn the_table_has_each_number() {
     for part in &PARTS {
         let calls = of_part(part);
-        let numbers: BTreeSet<u8> = calls.iter().map(|bad| bad.ran.number).collect();
-        let mut all = BTreeSet::from([0, 1, 3, 4, 5, 6, 7, 8, 9, 11]);
-        all.extend((part.wires == Wires::I2c).then_some(10));
-        assert_eq!(numbers, all, "part {}", part.number);
-        let good = calls.iter().filter(|bad| bad.ran.number == 0);
-        let stored = good.filter(|bad| bad.call.compare().is_ok_and(|it| it.changed == 1));
-        assert!(stored.count() >= 80, "part {}", part.number);
+        let numbers = |met: fn(&Bad) -> bool| -> BTreeSet<u8> {
+            let met = calls.iter().filter(|bad| met(bad));
+            met.map(|bad| bad.ran.number).collect()
+        };
+        let of_events: BTreeSet<u8> = refusals(part).map(|number| number as u8).collect();
+        let all = &of_events | &BTreeSet::from([0, 1, 3]);
+        assert_eq!(numbers(|_| true), all, "part {}", part.number);
+        let front = numbers(|bad| bad.ran.number > 3 && bad.ran.count == 0);
+        assert_eq!(front, &of_events - &BTreeSet::from([8, 9]));
+        let stored = numbers(|bad| bad.ran.number > 3 && bad.changed == 1);
+        assert_eq!(stored, of_events);
     }
 }
 
-/// The number, and how far from the kind byte of its event the offset is.
-fn place(bad: &Bad) -> (u8, u64) {
-    let (kind_byte, _) = after(&bad.call.trace, bad.ran.count);
-    (bad.ran.number, bad.ran.offset - kind_byte)
-}
-
-/// Of 6, 10 and 11 the table has the bad field's first byte: at the front of a trace, where 8 and 9
-/// cannot be, and after a stored byte.
 #[test]
-fn offsets_are_those_of_the_fields() {
+fn the_table_has_good_calls_that_store() {
     for part in &PARTS {
-        let mut calls = of_part(part);
-        calls.retain(|bad| bad.ran.number > 3);
-        let mut places = BTreeSet::from([(4, 0), (5, 0), (6, 1), (7, 0), (11, 1)]);
-        places.extend((part.wires == Wires::I2c).then_some((10, 2)));
-        let front = calls.iter().filter(|bad| bad.ran.count == 0);
-        assert_eq!(front.map(place).collect::<BTreeSet<_>>(), places);
-        places.extend([(8, 0), (9, 0)]);
-        let stored = calls.iter().filter(|bad| bad.changed == 1);
-        assert_eq!(stored.map(place).collect::<BTreeSet<_>>(), places);
+        let mut good = of_part(part);
+        good.retain(|bad| bad.ran.number == 0);
+        let agreed = good.iter().filter_map(|bad| bad.call.compare().ok());
+        let stored = agreed.filter(|it| it.changed == 1).count();
+        assert!(stored >= 80, "part {}", part.number);
     }
 }
 
@@ -93,7 +85,7 @@ fn every_bad_selection() {
 /// Each number is met, those of events on either bus, 10 on I2C alone; and good selections store,
 /// drive, and have no bytes.
 #[test]
-fn the_selections_are_not_empty() {
+fn the_selections_have_each_number_and_good_ones() {
     let calls = bad_bytes::calls();
     let numbers = |spi: bool| -> BTreeSet<u8> {
         let of_bus = calls.iter().filter(|bad| (bad.call.making.part < 3) == spi);

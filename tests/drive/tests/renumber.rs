@@ -3,10 +3,10 @@
 
 use drive::field;
 use drive::renumber::{renumbered, Change, Given};
-use drive::trace::after;
 use std::io::Write;
 use std::process::{Command, Output, Stdio};
 use twin::text::Line;
+use twin::trace::after;
 
 const BASE: &str = include_str!("../../vectors/base.txt");
 const FIELDS: &str = include_str!("../../vectors/fields.txt");
@@ -143,7 +143,7 @@ fn base() {
     check(BASE, 500);
 }
 
-/// These were never made new: they came with their numbers and offsets.
+/// These have the numbers and offsets of ask 1 already.
 #[test]
 fn fields() {
     check(FIELDS, 120);

@@ -11,6 +11,7 @@ pub use bytes::{byte_case, selection_bytes, ByteCase};
 use crate::model::Model;
 use crate::part::{i2c_pin, spi_pin, Part, Wires, PARTS};
 use crate::text::first_memory;
+use crate::trace::i2c_on;
 
 /// Splitmix64.
 #[derive(Clone, Debug)]
@@ -277,8 +278,7 @@ impl<'a> Bench<'a> {
                 let idle = i2c_pin::SCL | i2c_pin::SDA;
                 self.wires = if self.rng.chance(850) { idle } else { any };
                 let start = self.address() % self.part.size as u32;
-                let [_, high, middle, low] = start.to_be_bytes();
-                self.push(&[2, self.wires, high, middle, low]);
+                self.push(&i2c_on(self.wires, start));
             }
         }
         self.stray();

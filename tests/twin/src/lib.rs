@@ -13,6 +13,7 @@ pub mod part;
 pub mod pins;
 pub mod spi;
 pub mod text;
+pub mod trace;
 
 pub use bytes::Selected;
 pub use ledger::Ledger;

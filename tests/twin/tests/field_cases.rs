@@ -1,14 +1,15 @@
 //! Generated traces with fields out of range: that each sort comes up, with power and without, and
 //! that a run ends there with its number and the place of its field.
 
-#[path = "common/events.rs"]
-mod events;
+#[path = "common/offset.rs"]
+mod offset;
 
-use events::{beginning, front};
+use offset::behind_kind;
 use std::collections::{BTreeMap, BTreeSet};
 use std::ops::RangeInclusive;
 use twin::gen::{self, Case, Knobs, Rng};
 use twin::text::first_memory;
+use twin::trace::{after, events, i2c_on};
 use twin::{Model, Part, Ran, PARTS};
 
 /// What is out of range in an event.
@@ -22,12 +23,11 @@ enum Wrong {
 }
 
 impl Wrong {
-    /// The number, and how far behind the kind byte the field begins that it is for.
-    fn refusal(self) -> (u8, u64) {
+    fn number(self) -> u8 {
         match self {
-            Wrong::SampleOfPowerOn | Wrong::SampleAndStartAddress | Wrong::Sample => (6, 1),
-            Wrong::StartAddress => (10, 2),
-            Wrong::Expected => (11, 1),
+            Wrong::SampleOfPowerOn | Wrong::SampleAndStartAddress | Wrong::Sample => 6,
+            Wrong::StartAddress => 10,
+            Wrong::Expected => 11,
         }
     }
 }
@@ -129,38 +129,37 @@ impl Seen {
         let (_, mut model) = Model::make(case.part, case.pins, case.bits);
         let mut memory = first_memory(model.part().size);
         let ran = model.run_each(&case.trace, u64::MAX, &mut memory, |_| ());
-        let at = beginning(&case.trace, ran.count);
-        let mut accepted = &case.trace[..at];
-        while !accepted.is_empty() {
-            let event = front(accepted);
+        for event in events(&case.trace).take(ran.count as usize) {
             assert_eq!(self.limits.wrong(event), None, "accepted: {event:?}");
             self.events.insert((0, event.to_vec()));
-            accepted = &accepted[event.len()..];
         }
+        let (at, _) = after(&case.trace, ran.count);
         if ran.number == 0 {
-            let end = case.trace.len();
-            assert_eq!((ran.offset as usize, at), (end, end));
+            let end = case.trace.len() as u64;
+            assert_eq!((ran.offset, at), (end, end));
             return;
         }
-        self.ended_at(ran, at as u64, &case.trace[at..], model.powered());
+        self.ended_at(ran, at, &case.trace[at as usize..], model.powered());
     }
 
     /// A run that was refused the event in front of the rest. A bad field and no other thing gives
     /// the number of one, and the offset shows that field.
     fn ended_at(&mut self, ran: Ran, at: u64, rest: &[u8], powered: bool) {
-        let event = front(rest);
+        let mut behind = events(rest);
+        let event = behind.next().expect("an event is refused");
         self.events.insert((ran.number, event.to_vec()));
         let Some(wrong) = self.limits.wrong(event) else {
             assert!(!matches!(ran.number, 6 | 10 | 11), "{ran:?} for {event:?}");
             assert_eq!(ran.offset, at, "{event:?}");
             return;
         };
-        let (number, behind) = wrong.refusal();
-        assert_eq!((ran.number, ran.offset), (number, at + behind), "{event:?}");
+        let number = wrong.number();
+        let offset = at + behind_kind(number);
+        assert_eq!((ran.number, ran.offset), (number, offset), "{event:?}");
         *self.ended.entry((wrong, powered)).or_default() += 1;
+        let second = behind.next().and_then(|event| self.limits.wrong(event));
+        self.two += u32::from(second.is_some());
         let others = &rest[event.len()..];
-        let second = !others.is_empty() && self.limits.wrong(front(others)).is_some();
-        self.two += u32::from(second);
         if ran.count == 0 {
             self.first.insert(number);
         } else if others.is_empty() {
@@ -250,14 +249,12 @@ impl Seen {
     /// The last values in range: taken, or refused for power or for want of it.
     fn assert_limits(&self) {
         let most = self.limits.sample;
-        let [_, high, middle, low] = (self.limits.size - 1).to_be_bytes();
-        let i2c_on = [2, most, high, middle, low];
         let on = if self.limits.spi {
-            &[1, most][..]
+            vec![1, most]
         } else {
-            &i2c_on
+            i2c_on(most, self.limits.size - 1).into()
         };
-        for (event, other) in [(on, 8), (&[4, most], 7), (&[5, 2], 7)] {
+        for (event, other) in [(&on[..], 8), (&[4, most], 7), (&[5, 2], 7)] {
             self.assert_event(0, event);
             self.assert_event(other, event);
         }

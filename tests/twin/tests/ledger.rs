@@ -1,11 +1,8 @@
 //! Demand 3: after a cut at any event, memory and saved bits are those of the ledger.
 
-#[path = "common/events.rs"]
-mod events;
-
-use events::front;
 use twin::gen::{self, Case, Rng};
 use twin::text::first_memory;
+use twin::trace::events;
 use twin::{Ledger, Model};
 
 /// A cut leaves the unpowered model of the ledger's bits, and the ledger's memory.
@@ -25,18 +22,14 @@ fn follow(case: &Case, rng: &mut Rng) -> u64 {
     let (_, mut model) = Model::make(case.part, case.pins, case.bits);
     let mut memory = first_memory(model.part().size);
     let mut ledger = Ledger::begin(case.part, case.pins, case.bits, &memory);
-    let mut rest = &case.trace[..];
+    let mut rest = events(&case.trace).peekable();
     let mut changes = 0;
     compare_cut(&model, &mut memory, &ledger);
-    while !rest.is_empty() {
+    while let Some(&next) = rest.peek() {
         let junk = [rng.byte() % 8, rng.byte()];
-        let event = if rng.chance(5) {
-            &junk[..]
-        } else {
-            front(rest)
-        };
+        let event = if rng.chance(5) { &junk[..] } else { next };
         if event != junk {
-            rest = &rest[event.len()..];
+            rest.next();
         }
         let before = model.clone();
         let (number, answer) = model.event(event, &mut memory);

@@ -103,11 +103,24 @@ fn check(part: u32, accepted: &[&[u8]], refusals: &[Refusal]) {
     }
 }
 
-/// These are 4 and 5 with power or without: what their fields hold is not looked at.
-const SPI_FORMS: [Refusal; 11] = [
+/// What is refused for its bytes alone, with power or without: 4 and 5, for which no field is looked
+/// at, then 6, 10 and 11, which precede 7, 8 and 9. These are so on any part.
+const ON_ANY: [Refusal; 11] = [
     (&[0], 4, 0),
     (&[6, 1, 1, 1], 4, 0),
     (&[255], 4, 0),
+    (&[4], 5, 0),
+    (&[5], 5, 0),
+    (&[4, 32], 6, 1),
+    (&[4, 128], 6, 1),
+    (&[4, 255], 6, 1),
+    (&[5, 3], 11, 1),
+    (&[5, 4], 11, 1),
+    (&[5, 255], 11, 1),
+];
+
+/// The same on the SPI parts.
+const ON_SPI: [Refusal; 10] = [
     // The power on of the other bus: in range, each field bad, all bad, cut short.
     (&[2, 0, 0, 0, 0], 4, 0),
     (&[2, 255, 0, 0, 0], 4, 0),
@@ -115,14 +128,14 @@ const SPI_FORMS: [Refusal; 11] = [
     (&[2, 255, 255, 255, 255], 4, 0),
     (&[2, 255], 4, 0),
     (&[1], 5, 0),
-    (&[4], 5, 0),
-    (&[5], 5, 0),
+    (&[1, 32], 6, 1),
+    (&[1, 33], 6, 1),
+    (&[1, 64], 6, 1),
+    (&[1, 255], 6, 1),
 ];
 
-const I2C_FORMS: [Refusal; 15] = [
-    (&[0], 4, 0),
-    (&[6, 1, 1, 1], 4, 0),
-    (&[255], 4, 0),
+/// The same on the I2C parts; the start addresses are bad on both.
+const ON_I2C: [Refusal; 21] = [
     (&[1, 0], 4, 0),
     (&[1, 255], 4, 0),
     (&[1], 4, 0),
@@ -134,26 +147,6 @@ const I2C_FORMS: [Refusal; 15] = [
     (&[2, 0, 255, 255], 5, 0),
     (&[2, 8, 255], 5, 0),
     (&[2, 255, 255, 255], 5, 0),
-    (&[4], 5, 0),
-    (&[5], 5, 0),
-];
-
-/// What precedes 7, 8 and 9 with power or without.
-const SPI_FIELDS: [Refusal; 10] = [
-    (&[1, 32], 6, 1),
-    (&[1, 33], 6, 1),
-    (&[1, 64], 6, 1),
-    (&[1, 255], 6, 1),
-    (&[4, 32], 6, 1),
-    (&[4, 128], 6, 1),
-    (&[4, 255], 6, 1),
-    (&[5, 3], 11, 1),
-    (&[5, 4], 11, 1),
-    (&[5, 255], 11, 1),
-];
-
-/// As for SPI; the start addresses are bad on both parts.
-const I2C_FIELDS: [Refusal; 15] = [
     (&[2, 8, 0, 0, 0], 6, 1),
     (&[2, 31, 0, 0x1f, 0xff], 6, 1),
     (&[2, 255, 0, 0, 0], 6, 1),
@@ -165,10 +158,6 @@ const I2C_FIELDS: [Refusal; 15] = [
     (&[2, 7, 255, 255, 255], 10, 2),
     (&[4, 8], 6, 1),
     (&[4, 24], 6, 1),
-    (&[4, 255], 6, 1),
-    (&[5, 3], 11, 1),
-    (&[5, 4], 11, 1),
-    (&[5, 255], 11, 1),
 ];
 
 #[test]
@@ -183,18 +172,16 @@ fn order_without_power() {
     ];
     for part in 0..3 {
         let cut: [&[u8]; 3] = [&[1, 31], &[4, 31], &[3]];
-        for accepted in [&[][..], &cut] {
-            for refusals in [&SPI_FORMS[..], &SPI_FIELDS, &rest, &[(&[4, 31], 7, 0)]] {
-                check(part, accepted, refusals);
-            }
+        for refusals in [&ON_ANY[..], &ON_SPI, &rest, &[(&[4, 31], 7, 0)]] {
+            check(part, &[], refusals);
+            check(part, &cut, refusals);
         }
     }
     for part in 3..5 {
         let cut: [&[u8]; 3] = [&[2, 7, 0, 0x1f, 0xff], &[4, 7], &[3]];
-        for accepted in [&[][..], &cut] {
-            for refusals in [&I2C_FORMS[..], &I2C_FIELDS, &rest] {
-                check(part, accepted, refusals);
-            }
+        for refusals in [&ON_ANY[..], &ON_I2C, &rest] {
+            check(part, &[], refusals);
+            check(part, &cut, refusals);
         }
     }
 }
@@ -206,7 +193,7 @@ fn order_under_power() {
     let spi_on: [Refusal; 2] = [(&[1, 0], 8, 0), (&[1, 31], 8, 0)];
     for part in 0..3 {
         let powered: [&[u8]; 4] = [&[1, 25], &[4, 24], &[5, 2], &[4, 31]];
-        for refusals in [&SPI_FORMS[..], &SPI_FIELDS, &spi_on, &rest] {
+        for refusals in [&ON_ANY[..], &ON_SPI, &spi_on, &rest] {
             check(part, &powered[..1], refusals);
             check(part, &powered, refusals);
         }
@@ -214,7 +201,7 @@ fn order_under_power() {
     let i2c_on: [Refusal; 2] = [(&[2, 0, 0, 0, 0], 8, 0), (&[2, 7, 0, 0x1f, 0xff], 8, 0)];
     for part in 3..5 {
         let powered: [&[u8]; 4] = [&[2, 3, 0, 0, 0], &[4, 1], &[5, 2], &[4, 7]];
-        for refusals in [&I2C_FORMS[..], &I2C_FIELDS, &i2c_on, &rest] {
+        for refusals in [&ON_ANY[..], &ON_I2C, &i2c_on, &rest] {
             check(part, &powered[..1], refusals);
             check(part, &powered, refusals);
         }
@@ -224,16 +211,17 @@ fn order_under_power() {
 /// The size is 2000h on part 3 and 20000h on part 4.
 #[test]
 fn start_addresses_by_part() {
-    let on_both: [(&[u8], u8); 2] = [(&[2, 7, 0, 0x1f, 0xff], 8), (&[2, 7, 2, 0, 0], 10)];
-    let on_3: [(&[u8], u8); 3] = [
-        (&[2, 7, 0, 0x20, 0], 10),
-        (&[2, 0, 0, 0x20, 1], 10),
-        (&[2, 7, 1, 0xff, 0xff], 10),
+    let on_both: [Refusal; 2] = [(&[2, 7, 0, 0x1f, 0xff], 8, 0), (&[2, 7, 2, 0, 0], 10, 2)];
+    let on_3: [Refusal; 3] = [
+        (&[2, 7, 0, 0x20, 0], 10, 2),
+        (&[2, 0, 0, 0x20, 1], 10, 2),
+        (&[2, 7, 1, 0xff, 0xff], 10, 2),
     ];
-    for (part, others) in [(3, on_3), (4, on_3.map(|(event, _)| (event, 8)))] {
-        for (event, number) in on_both.into_iter().chain(others) {
-            let behind = if number == 10 { 2 } else { 0 };
-            check(part, &[&[2, 3, 0, 0, 0]], &[(event, number, behind)]);
+    let on_4 = on_3.map(|(event, ..)| (event, 8, 0));
+    for (part, others) in [(3, on_3), (4, on_4)] {
+        for refusal in on_both.into_iter().chain(others) {
+            check(part, &[&[2, 3, 0, 0, 0]], &[refusal]);
+            let (event, number, _) = refusal;
             // Without power 10 stays, and the others are in range.
             let model = Model::make(part, 0, 0).1;
             let without = if number == 10 { 10 } else { 0 };
@@ -282,26 +270,14 @@ fn an_empty_event() {
 fn earlier_events_stand() {
     let stored = [spelled(true, &[6]), spelled(true, &[2, 0, 5, 0x77])].concat();
     let before = [&[1, 25], &stored[..], &[4, 24, 4, 26]].concat();
-    let bad: [(&[u8], u8); 3] = [(&[4, 32], 6), (&[1, 32], 6), (&[5, 3], 11)];
-    for (event, number) in bad {
-        let mut bus = Bus::make(0, 0, 0);
-        let trace = [&before, event, &[3]].concat();
-        let ran = bus
-            .model
-            .run(&trace, u64::MAX, &mut bus.memory, &mut Vec::new());
-        let whole = Ran {
-            number,
-            count: before.len() as u64 / 2,
-            offset: before.len() as u64 + 1,
-        };
-        assert_eq!(ran, whole);
-        assert_eq!(bus.memory[5], 0x77);
-        let mut other = Bus::make(0, 0, 0);
-        for event in before.chunks(2) {
-            other.event(event);
-        }
-        assert_eq!((bus.model, bus.memory), (other.model, other.memory));
+    let accepted: Vec<&[u8]> = before.chunks(2).collect();
+    let bad: [Refusal; 3] = [(&[4, 32], 6, 1), (&[1, 32], 6, 1), (&[5, 3], 11, 1)];
+    check(0, &accepted, &bad);
+    let mut bus = Bus::make(0, 0, 0);
+    for event in accepted {
+        bus.event(event);
     }
+    assert_eq!(bus.memory[5], 0x77);
 }
 
 /// 11 also where the part drives, and 9 there for the values in range.

@@ -1,11 +1,12 @@
 //! "Trace runs": quota, count and offset over generated traces, and where the offset shows.
 
-#[path = "common/events.rs"]
-mod events;
+#[path = "common/offset.rs"]
+mod offset;
 
-use events::{behind_kind, front};
+use offset::behind_kind;
 use twin::gen::{self, Rng};
 use twin::text::first_memory;
+use twin::trace::events;
 use twin::{Model, Ran};
 
 /// How many of some generated runs had each number.
@@ -29,10 +30,10 @@ fn a_run_is_its_events_one_by_one() {
         let mut memory = cells.clone();
         let mut answers = Vec::new();
         let ran = model.run(&case.trace, u64::MAX, &mut memory, &mut answers);
-        let mut at = 0;
+        let (mut at, mut rest) = (0, events(&case.trace));
         for &answer in &answers {
             assert_eq!(alone.event(&case.trace[at..], &mut cells), (0, answer));
-            at += front(&case.trace[at..]).len();
+            at += rest.next().expect("an answer is an event's").len();
         }
         let end = at == case.trace.len();
         let number = if end {

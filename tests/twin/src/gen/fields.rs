@@ -2,6 +2,7 @@
 
 use super::Rng;
 use crate::part::{Part, Wires};
+use crate::trace::{after, events, i2c_on};
 
 /// Puts an event with a bad field before a trace, among its events or behind it, now and then with
 /// a second one that no run comes to; or one at the limits behind it, where it disturbs no other.
@@ -26,19 +27,10 @@ pub(super) fn put_fields(rng: &mut Rng, part: &Part, out: &mut Vec<u8>) {
     out.splice(at..at, event);
 }
 
-/// Where an event begins, an unknown kind taken for one byte, or where the trace ends.
+/// Where an event begins, or where the trace ends.
 fn any_beginning(rng: &mut Rng, trace: &[u8]) -> usize {
-    let mut beginnings = vec![0];
-    let mut at = 0;
-    while let Some(&kind) = trace.get(at) {
-        at += match kind {
-            1 | 4 | 5 => 2,
-            2 => 5,
-            _ => 1,
-        };
-        beginnings.push(at.min(trace.len()));
-    }
-    rng.pick(&beginnings)
+    let events = events(trace).count() as u64;
+    after(trace, rng.below(events + 1)).0 as usize
 }
 
 /// A kind that has fields; rarely the power on of the other bus, which is 4 whatever its fields.
@@ -52,11 +44,14 @@ fn kind(rng: &mut Rng, wires: Wires) -> u8 {
 /// An event with a field out of range, or on kind 02 with both.
 fn out_of_range(rng: &mut Rng, part: &Part) -> Vec<u8> {
     match kind(rng, part.wires) {
-        2 => match rng.below(3) {
-            0 => i2c_on(bad_sample(rng, part), good_start(rng, part)),
-            1 => i2c_on(good_sample(rng, part), bad_start(rng, part)),
-            _ => i2c_on(bad_sample(rng, part), bad_start(rng, part)),
-        },
+        2 => {
+            let (sample, start) = match rng.below(3) {
+                0 => (bad_sample(rng, part), good_start(rng, part)),
+                1 => (good_sample(rng, part), bad_start(rng, part)),
+                _ => (bad_sample(rng, part), bad_start(rng, part)),
+            };
+            i2c_on(sample, start).into()
+        }
         5 => vec![5, above(rng, 2)],
         kind => vec![kind, bad_sample(rng, part)],
     }
@@ -65,15 +60,10 @@ fn out_of_range(rng: &mut Rng, part: &Part) -> Vec<u8> {
 /// An event whose fields are the last in range.
 fn at_the_limits(rng: &mut Rng, part: &Part) -> Vec<u8> {
     match kind(rng, part.wires) {
-        2 => i2c_on(part.max_sample(), part.size as u32 - 1),
+        2 => i2c_on(part.max_sample(), part.size as u32 - 1).into(),
         5 => vec![5, 2],
         kind => vec![kind, part.max_sample()],
     }
-}
-
-fn i2c_on(sample: u8, start: u32) -> Vec<u8> {
-    let [_, high, middle, low] = start.to_be_bytes();
-    vec![2, sample, high, middle, low]
 }
 
 /// The last in range, or any.

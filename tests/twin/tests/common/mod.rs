@@ -4,6 +4,7 @@
 pub mod pins;
 
 use twin::text::first_memory;
+use twin::trace::i2c_on;
 use twin::Model;
 
 pub struct Bus {
@@ -107,8 +108,7 @@ impl Bus {
     /// An I2C part under power, at rest.
     pub fn i2c(part: u32, pins: u32, start: u32) -> Bus {
         let mut bus = Bus::make(part, pins, 0);
-        let [_, high, middle, low] = start.to_be_bytes();
-        bus.event(&[2, 3, high, middle, low]);
+        bus.event(&i2c_on(3, start));
         bus
     }
 

@@ -2,11 +2,11 @@
 
 use crate::{median, timed};
 use drive::script::{addressed, Script};
-use drive::trace::events;
 use drive::{Making, Ran};
 use std::hint::black_box;
 use twin::gen::Rng;
 use twin::part::Wires;
+use twin::trace::events;
 use twin::{Model, PARTS};
 
 /// Data bytes of a stream: the largest memory once.
