@@ -21,16 +21,18 @@ static int gives(uint32_t part, const uint8_t *trace, size_t length, uint8_t num
 }
 
 /* A sample of 32, an expected value of 3 and on part 3 a start address of 8,192: the number says which field is bad, and the offset
-   is that of its first byte. */
+   is that of its first byte. Of a sample of 8 and that start address, both bad on part 3, it is the sample. */
 static int fields(void)
 {
     static const uint8_t sample[] = {0x01, 0x19, 0x04, 0x20};
     static const uint8_t expected[] = {0x01, 0x19, 0x05, 0x03};
     static const uint8_t start[] = {0x02, 0x03, 0x00, 0x20, 0x00};
+    static const uint8_t sample_and_start[] = {0x02, 0x08, 0x00, 0x20, 0x00};
 
     return gives(0, sample, sizeof sample, 6, 1, 3)
         && gives(0, expected, sizeof expected, 11, 1, 3)
-        && gives(3, start, sizeof start, 10, 0, 2);
+        && gives(3, start, sizeof start, 10, 0, 2)
+        && gives(3, sample_and_start, sizeof sample_and_start, 6, 0, 1);
 }
 
 /* RDSR after power on shows 00h, once: byte 1 of two. Then a buffer that is a byte too long. */

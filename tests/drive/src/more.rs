@@ -30,7 +30,7 @@ struct Shown {
 pub fn text() -> String {
     let mut text = String::from(
         "# Traces made by hand, each with what it shows, in the format of base.txt. Written by\n\
-         # `cargo run --release --bin more` in tests/drive; tests/drive/src/more.rs has the traces.\n",
+         # `cargo run --offline --release --bin more` in tests/drive, whose src/more.rs has the traces.\n",
     );
     for shown in all() {
         let line = Line::play(shown.part, 0, shown.bits, &shown.trace);

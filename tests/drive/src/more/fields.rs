@@ -1,5 +1,5 @@
-//! Ask 1: bad fields where another number could be given too, in ways that neither base.txt nor
-//! fields.txt has. On each part of the bus.
+//! Ask 1: bad fields where another number could be given too, in ways or with values that neither
+//! base.txt nor fields.txt has. On each part of the bus.
 
 use super::Shown;
 use crate::refused::power_on;
@@ -42,6 +42,11 @@ fn i2c(part: &Part) -> Vec<Shown> {
             part,
             "power on under power, sample and start address too large: 6, neither 10 nor 8",
             &[&on, &bad],
+        ),
+        shown(
+            part,
+            "power on under power, start address too large: 10, not 8",
+            &[&on, &power_on(part, 0, part.size)],
         ),
         shown(
             part,
