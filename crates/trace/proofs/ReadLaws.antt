@@ -46,9 +46,6 @@ fields true true false f e m n h = let z : _≡_ {A = ℕ} 0 1 = cc in absurd (o
 fields true false c f e m n h = let z : _≡_ {A = ℕ} 0 1 = cc in absurd (omega arith)
 fields false b c f e m n h = let z : _≡_ {A = ℕ} 0 1 = cc in absurd (omega arith)
 
-pub fields-whole : (p : Part) (e : Event) (n : ℕ) → sampleIn p e ≡ true → startIn p e ≡ true → expectedIn e ≡ true → fieldsRead p e n ≡ Whole e n
-fields-whole p e n a b c = rw (a, b, c)
-
 -- an event takes at least the byte of its kind
 pub length-positive : (k : ℕ) → 0 < eventLength k
 length-positive k = by (eqb k 2) (eqb k 3)

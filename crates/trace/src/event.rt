@@ -1,8 +1,7 @@
-// The events of a trace, and what their fields may be.
+// The events of a trace, and how large a sample may be.
 ghost use mathlib.Core.Path.{_≡_};
-ghost use Rattle.trace.specs.Event.{sampleLimit, sampleIn, startIn, expectedIn};
+ghost use Rattle.trace.specs.Event.{sampleLimit};
 use parts::part::Bus;
-use parts::part::Part;
 
 pub enum Event {
     // kind 01
@@ -24,48 +23,5 @@ pub fn sample_limit(bus: Bus) -> u8
     match bus {
         Bus::Spi => 32,
         Bus::I2c => 8,
-    }
-}
-
-// Whether the event's sample is in range; an event without a sample passes.
-pub fn sample_in(part: Part, event: Event) -> bool
-    ensures { λ r. ⌜ r ≡ sampleIn part event ⌝ }
-{
-    let bus = part.bus;
-    match event {
-        Event::SpiPowerOn { sample } => sample < sample_limit(bus),
-        Event::I2cPowerOn { sample, start: _ } => sample < sample_limit(bus),
-        Event::PowerOff => true,
-        Event::Sample { sample } => sample < sample_limit(bus),
-        Event::Expected { answer: _ } => true,
-    }
-}
-
-// Whether its start address is.
-pub fn start_in(part: Part, event: Event) -> bool
-    ensures { λ r. ⌜ r ≡ startIn part event ⌝ }
-{
-    match event {
-        Event::SpiPowerOn { sample: _ } => true,
-        Event::I2cPowerOn { sample: _, start } => start < part.size,
-        Event::PowerOff => true,
-        Event::Sample { sample: _ } => true,
-        Event::Expected { answer: _ } => true,
-    }
-}
-
-// Whether its expected answer is.
-pub fn expected_in(event: Event) -> bool
-    ensures { λ r. ⌜ r ≡ expectedIn event ⌝ }
-{
-    match event {
-        Event::SpiPowerOn { sample: _ } => true,
-        Event::I2cPowerOn {
-            sample: _,
-            start: _,
-        } => true,
-        Event::PowerOff => true,
-        Event::Sample { sample: _ } => true,
-        Event::Expected { answer } => answer < 3,
     }
 }

@@ -1,7 +1,10 @@
 // The event at the front of some bytes, or why there is none.
 ghost use mathlib.Core.Path.{_≡_};
 ghost use Prim.Native.Nat.{_≤_};
+ghost use mathlib.Core.Bool.{cond};
+ghost use lib.Dec.{ltb};
 ghost use lib.ListN.{length};
+ghost use Rattle.trace.specs.Event.{sampleLimit};
 ghost use Rattle.trace.specs.Read.{knownKind, eventLength, startAddress, parsedEvent, fieldsRead, readOf};
 use crate::event::Event;
 use parts::part::Bus;
@@ -64,23 +67,51 @@ fn parsed_event(kind: u8, bytes: &[u8]) -> Event
     }
 }
 
-// An event whose bytes are all there, or refused with 6, 10 or 11, tested in that order, at the first byte of the bad field.
+// What was read of the other fields stands if the sample is in range; it comes right after the kind.
+fn read_sample(bus: Bus, sample: u8, others: Read) -> Read
+    ensures { λ r. ⌜ r ≡ cond (ltb sample (sampleLimit bus)) others (Read.Refused Refusal.SampleRange 1) ⌝ }
+{
+    if sample < crate::event::sample_limit(bus) {
+        others
+    } else {
+        refused(Refusal::SampleRange, 1)
+    }
+}
+
+// The same of a start address, which comes after the sample.
+fn read_start(part: Part, start: u32, others: Read) -> Read
+    ensures { λ r. ⌜ r ≡ cond (ltb start (part .size)) others (Read.Refused Refusal.StartRange 2) ⌝ }
+{
+    if start < part.size {
+        others
+    } else {
+        refused(Refusal::StartRange, 2)
+    }
+}
+
+// An event whose bytes are all there: 6, 10 and 11, each at the first byte of its field. One match on the kind, and not one for each
+// test: so the compiler keeps the loops over samples, which it puts into the same function, as quick as they are.
 fn read_fields(part: Part, event: Event, taken: usize) -> Read
     ensures { λ r. ⌜ r ≡ fieldsRead part event taken ⌝ }
 {
-    let sample = crate::event::sample_in(part, event);
-    let start = crate::event::start_in(part, event);
-    let expected = crate::event::expected_in(event);
-    if !sample {
-        return refused(Refusal::SampleRange, 1);
+    let bus = part.bus;
+    let whole = Read::Whole { event, taken };
+    match event {
+        Event::SpiPowerOn { sample } => read_sample(bus, sample, whole),
+        Event::I2cPowerOn { sample, start } => {
+            let others = read_start(part, start, whole);
+            read_sample(bus, sample, others)
+        }
+        Event::PowerOff => whole,
+        Event::Sample { sample } => read_sample(bus, sample, whole),
+        Event::Expected { answer } => {
+            if answer < 3 {
+                whole
+            } else {
+                refused(Refusal::ExpectedRange, 1)
+            }
+        }
     }
-    if !start {
-        return refused(Refusal::StartRange, 2);
-    }
-    if !expected {
-        return refused(Refusal::ExpectedRange, 1);
-    }
-    Read::Whole { event, taken }
 }
 
 // Refused with 4 or 5, tested in that order, at the kind byte; else by the fields. Bytes after the event are ignored.
