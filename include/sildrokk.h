@@ -40,7 +40,8 @@
  * 1 and 3 are tested first, whatever the trace and the quota; the memory is then untouched, and
  * both numbers of the result are 0. With 4 to 11 of an event the events before it stand. The 4 of a
  * selection, 12 and 13 are tested after the whole trace, in this order, and all of it stands.
- * 2 is about a state that a host hands in; no function here takes one.
+ * With 2 these are eleven numbers, and two more of a selection; 2 is for a state that a host hands
+ * in, and no function here takes one.
  *
  * The host's duties, which nothing here can test: each pointer is valid for its length and not
  * null, also where the length is 0; and no two of the lent buffers overlap. The functions keep
