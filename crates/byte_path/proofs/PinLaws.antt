@@ -43,13 +43,13 @@ module _ (part pins : ℕ) where
   abbrev on : Status → Spi → Model
   on st x = modelOf part pins st (SpiOn x)
 
-  -- a sample on the pins is a step of the bus
+  -- a sample on the pins is a step of the bus; its flag is not among what is kept of it
   pub sampled-is : (st : Status) (x : Spi) (m : List ℕ) (a : ℕ) (cs sck si wp : Bool)
       → sampled (record { model = on st x; memory = m; answer = a }) (sampleOf cs sck si wp)
-      ≡ left (spiSampled (on st x) m (stepOf row st x (levels cs sck si wp) m))
+      ≡ left (spiSampled (on st x) m false (stepOf row st x (levels cs sck si wp) m))
   unfolding advanceOf
   sampled-is st x m a cs sck si wp =
-      ap (λ (l : Levels). left (spiSampled (on st x) m (stepOf row st x l m))) (levels-are cs sck si wp)
+      ap (λ (l : Levels). left (spiSampled (on st x) m false (stepOf row st x l m))) (levels-are cs sck si wp)
 
   module _ (st : Status) (z wp : Bool) where
     -- what the phase shows once SCK has fallen

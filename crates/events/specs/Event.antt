@@ -1,6 +1,6 @@
 -- One event of a model whose state and memory passed 1 to 3, and whose bytes passed 4, 5, 6, 10 and 11.
 use Prim.Native.Nat.{ℕ}
-use mathlib.Core.Bool.{false, cond}
+use mathlib.Core.Bool.{Bool, false, cond}
 use mathlib.Core.List.{List}
 use lib.Dec.{eqb}
 use Rattle.parts.specs.declared.answer.Answer.{Answer}
@@ -15,10 +15,12 @@ use Rattle.serial.specs.Write.{applied}
 use Rattle.trace.specs.declared.event.Event.{Event}
 use Rattle.trace.specs.declared.event.Event.the-variants.{SpiPowerOn, I2cPowerOn, PowerOff, Sample, Expected}
 use Rattle.spi.specs.declared.sample.Spi as SpiState
+use Rattle.selection.specs.Flag as SpiFlag
 use Rattle.selection.specs.Levels as SpiLevels
 use Rattle.spi.specs.Sample as SpiSample
 use Rattle.spi.specs.Show as SpiShow
 use Rattle.i2c.specs.declared.sample.I2c as I2cState
+use Rattle.transfer.specs.Flag as I2cFlag
 use Rattle.transfer.specs.Levels as I2cLevels
 use Rattle.i2c.specs.Sample as I2cSample
 use Rattle.events.specs.declared.event.Answered.{Answered}
@@ -28,12 +30,17 @@ use Rattle.chip.specs.declared.model.Model.{Model}
 use Rattle.chip.specs.Model.{modelOf, unpowered}
 use Rattle.power.specs.Power.{spiStart, i2cStart, keptStatus}
 
+-- an accepted event that is no sample: its flag is clear
 abbrev pub accepted : Answer → Model → Answered
-accepted a s = record { number = 0; answer = answerNumber a; model = s }
+accepted a s = record { number = 0; answer = answerNumber a; flag = false; model = s }
 
--- a refusal has its number, drives nothing and leaves the state as it was
+-- an accepted sample, flagged or not
+abbrev pub sampled : Bool → Answer → Model → Answered
+sampled f a s = record { number = 0; answer = answerNumber a; flag = f; model = s }
+
+-- a refusal has its number, drives nothing, sets no flag and leaves the state as it was
 abbrev pub refused : Refusal → Model → Answered
-refused r s = record { number = refusalNumber r; answer = 2; model = s }
+refused r s = record { number = refusalNumber r; answer = 2; flag = false; model = s }
 
 -- what an event gives, and the memory after it
 pub record Outcome : Type 0 where
@@ -65,28 +72,30 @@ onUnpowered s PowerOff = refused R.Unpowered s
 onUnpowered s (Sample x) = refused R.Unpowered s
 onUnpowered s (Expected v) = refused R.Unpowered s
 
--- an accepted sample: what the bus rules give
-abbrev pub spiSampled : Model → List ℕ → SpiSample.Outcome → Outcome
-spiSampled s m o =
-    record { result = accepted (o .answer) (modelOf (s .part) (s .pins) (o .status) (SpiOn (o .spi))); memory = applied (o .write) m }
+-- an accepted sample: what the bus rules give, with its flag
+abbrev pub spiSampled : Model → List ℕ → Bool → SpiSample.Outcome → Outcome
+spiSampled s m f o =
+    record { result = sampled f (o .answer) (modelOf (s .part) (s .pins) (o .status) (SpiOn (o .spi))); memory = applied (o .write) m }
 
-abbrev pub i2cSampled : Model → List ℕ → I2cSample.Outcome → Outcome
-i2cSampled s m o =
-    record { result = accepted (o .answer) (modelOf (s .part) (s .pins) (s .status) (I2cOn (o .i2c))); memory = applied (o .write) m }
+abbrev pub i2cSampled : Model → List ℕ → Bool → I2cSample.Outcome → Outcome
+i2cSampled s m f o =
+    record { result = sampled f (o .answer) (modelOf (s .part) (s .pins) (s .status) (I2cOn (o .i2c))); memory = applied (o .write) m }
 
 -- under power, here on SPI and below on I2C: power on is refused with 8, and an expected answer is held against the present one
 abbrev pub onSpi : Part → Model → SpiState.Spi → List ℕ → Event → Outcome
 onSpi p s x m (SpiPowerOn v) = keeping m (refused R.Powered s)
 onSpi p s x m (I2cPowerOn v a) = keeping m (refused R.Powered s)
 onSpi p s x m PowerOff = keeping m (poweredOff p s)
-onSpi p s x m (Sample v) = spiSampled s m (SpiSample.stepOf p (s .status) x (SpiLevels.levelsOf v) m)
+onSpi p s x m (Sample v) =
+    spiSampled s m (SpiFlag.flagOf (x .last) (SpiLevels.levelsOf v)) (SpiSample.stepOf p (s .status) x (SpiLevels.levelsOf v) m)
 onSpi p s x m (Expected v) = keeping m (expected s (SpiShow.answerAt (x .last) (x .shown)) v)
 
 abbrev pub onI2c : Part → Model → I2cState.I2c → List ℕ → Event → Outcome
 onI2c p s x m (SpiPowerOn v) = keeping m (refused R.Powered s)
 onI2c p s x m (I2cPowerOn v a) = keeping m (refused R.Powered s)
 onI2c p s x m PowerOff = keeping m (poweredOff p s)
-onI2c p s x m (Sample v) = i2cSampled s m (I2cSample.stepOf p (s .pins) x (I2cLevels.levelsOf v) m)
+onI2c p s x m (Sample v) =
+    i2cSampled s m (I2cFlag.flagOf (x .phase) (x .last) (I2cLevels.levelsOf v)) (I2cSample.stepOf p (s .pins) x (I2cLevels.levelsOf v) m)
 onI2c p s x m (Expected v) = keeping m (expected s (I2cSample.answerOf (x .pulling)) v)
 
 abbrev pub advanceOn : BusState → Part → Model → List ℕ → Event → Outcome

@@ -1,3 +1,4 @@
 pub mod Event
+pub mod Flag
 pub mod OtherEvent
 pub mod Stays

@@ -11,30 +11,34 @@ use parts::part::Part;
 use parts::refusal::Refusal;
 use trace::event::Event;
 
-// What one event gives: number or 0, answer, next state.
+// What one event gives: number or 0, answer, warning flag, next state.
 pub struct Answered {
     pub number: u8,
     pub answer: u8,
+    pub flag: bool,
     pub model: Model,
 }
 
+// Power on and off and an expected answer set no flag.
 fn accept(answer: Answer, model: Model) -> Answered
     ensures { λ r. ⌜ r ≡ accepted answer model ⌝ }
 {
     Answered {
         number: 0,
         answer: answer.number(),
+        flag: false,
         model,
     }
 }
 
-// A refusal has its number, drives nothing and leaves the state as it was.
+// A refusal has its number, drives nothing, sets no flag and leaves the state as it was.
 pub fn refuse(refusal: Refusal, model: Model) -> Answered
     ensures { λ r. ⌜ r ≡ refused refusal model ⌝ }
 {
     Answered {
         number: refusal.number(),
         answer: 2,
+        flag: false,
         model,
     }
 }

@@ -1,10 +1,11 @@
--- The bytes of a number stored one after another, and two numbers in sixteen bytes. Assumes nothing.
+-- The bytes of a number stored one after another, and two or three numbers that fill a buffer. Assumes nothing.
 use Prim.Native.Nat.{ℕ, zero, suc, _+_, _-_, _<_}
-use mathlib.Core.Path.{_≡_, sym, ap, _∙_}
-use mathlib.Core.List.{List, _++_}
+use mathlib.Core.Path.{_≡_, sym, _∙_}
+use mathlib.Core.List.{List, _++_, append-nil}
+use native.Mathlib.Nat.{zero-add}
 use native.Mathlib.Numerals.{add-one}
 use native.Mathlib.Omega.{arith}
-use lib.ListN.{length, set, drop}
+use lib.ListN.{length, set}
 use lib.Seq.{sets, sets-eq, drop-length}
 use Rattle.runs.proofs.SetsLaws.{sets-append}
 use Rattle.harness.specs.Result.{byteOf, bytesOf}
@@ -18,9 +19,18 @@ put-on (suc k) l at n h = let e : suc k - 1 ≡ k = omega arith in rw (add-one a
 pub put-over : (left : ℕ) (l : List ℕ) (at n : ℕ) → left ≡ 0 → sets l at (bytesOf left n) ≡ l
 put-over left l at n e = rw e
 
+-- a buffer of as many bytes is filled
+filled : (l v : List ℕ) → length l ≡ length v → sets l 0 v ≡ v
+filled l v h = sets-eq v l 0 (omega (arith, h)) ∙ rw (zero-add (length v), ← h, drop-length l) (append-nil v)
+
 -- sixteen bytes, all of them stored
-pub both-numbers : (l : List ℕ) (c o : ℕ) → length l ≡ 16 → sets (sets l 0 (bytesOf 8 c)) 8 (bytesOf 8 o) ≡ bytesOf 8 c ++ bytesOf 8 o
-both-numbers l c o h =
-    sym (sets-append l 0 (bytesOf 8 c) (bytesOf 8 o))
-    ∙ sets-eq (bytesOf 8 c ++ bytesOf 8 o) l 0 (omega (arith, h))
-    ∙ ap (λ (r : List ℕ). bytesOf 8 c ++ bytesOf 8 o ++ r) (ap (λ (k : ℕ). drop k l) (sym h) ∙ drop-length l)
+pub two-numbers : (l : List ℕ) (a b : ℕ) → length l ≡ 16 → sets (sets l 0 (bytesOf 8 a)) 8 (bytesOf 8 b) ≡ bytesOf 8 a ++ bytesOf 8 b
+two-numbers l a b h = sym (sets-append l 0 (bytesOf 8 a) (bytesOf 8 b)) ∙ filled l (bytesOf 8 a ++ bytesOf 8 b) h
+
+-- twenty-four bytes
+pub three-numbers : (l : List ℕ) (a b c : ℕ) → length l ≡ 24
+    → sets (sets (sets l 0 (bytesOf 8 a)) 8 (bytesOf 8 b)) 16 (bytesOf 8 c) ≡ bytesOf 8 a ++ (bytesOf 8 b ++ bytesOf 8 c)
+three-numbers l a b c h =
+    sym (sets-append (sets l 0 (bytesOf 8 a)) 8 (bytesOf 8 b) (bytesOf 8 c))
+    ∙ sym (sets-append l 0 (bytesOf 8 a) (bytesOf 8 b ++ bytesOf 8 c))
+    ∙ filled l (bytesOf 8 a ++ (bytesOf 8 b ++ bytesOf 8 c)) h

@@ -1,4 +1,4 @@
--- Count and offset of a run, or first and count of a selection, eight bytes each, most significant first, in a buffer of exactly sixteen bytes.
+-- What a call gives besides its number, eight bytes for each figure, most significant first, in a buffer of exactly that many bytes.
 use Prim.Native.Nat.{ℕ, zero, suc, _*_, _/_, _%_, _^_}
 use mathlib.Core.Bool.{cond}
 use mathlib.Core.List.{List, [], _∷_, _++_}
@@ -14,6 +14,10 @@ abbrev pub bytesOf : ℕ → ℕ → List ℕ
 bytesOf zero n = []
 bytesOf (suc k) n = byteOf n k ∷ bytesOf k n
 
--- a buffer of another length is left as it is
-abbrev pub resultIn : ℕ → ℕ → List ℕ → List ℕ
-resultIn count offset buffer = cond (eqb (length buffer) 16) (bytesOf 8 count ++ bytesOf 8 offset) buffer
+-- count, offset and flag of a run; a buffer of another length is left as it is
+abbrev pub ranIn : ℕ → ℕ → ℕ → List ℕ → List ℕ
+ranIn count offset flag buffer = cond (eqb (length buffer) 24) (bytesOf 8 count ++ (bytesOf 8 offset ++ bytesOf 8 flag)) buffer
+
+-- first and count of a selection as bytes; a buffer of another length is left as it is
+abbrev pub selectedIn : ℕ → ℕ → List ℕ → List ℕ
+selectedIn first count buffer = cond (eqb (length buffer) 16) (bytesOf 8 first ++ bytesOf 8 count) buffer

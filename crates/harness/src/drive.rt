@@ -6,11 +6,11 @@ ghost use lib.Dec.{eqb};
 ghost use lib.Seq.{sets};
 ghost use Rattle.made.specs.MadeRun.{madeRun};
 ghost use Rattle.made.specs.MadeSelect.{madeSelect};
-ghost use Rattle.harness.specs.Result.{resultIn};
+ghost use Rattle.harness.specs.Result.{ranIn, selectedIn};
 
-// Makes a model, runs the trace on the lent memory, and returns the number or 0. A result of exactly 16 bytes gets count and
-// offset, and the answer of the i-th accepted event goes to answers[i] while it has room. A refused making returns 1, with count
-// and offset 0.
+// Makes a model, runs the trace on the lent memory, and returns the number or 0. A result of exactly 24 bytes gets count, offset and
+// the offset of the first flagged event, and the answer of the i-th accepted event goes to answers[i] while it has room. A refused making
+// returns 1, with count and offset 0 and the trace's length for the flag.
 #[no_mangle]
 pub extern "C" fn sildrokk_replay(
     part: u32,
@@ -25,10 +25,10 @@ pub extern "C" fn sildrokk_replay(
     ensures number { λ r. ⌜ r ≡ madeRun part pins bits quota (now (trace .entry)) (now (memory .entry)) .number ⌝ }
     ensures memory { λ r. ⌜ now (memory .exit) ≡ madeRun part pins bits quota (now (trace .entry)) (now (memory .entry)) .memory ⌝ }
     ensures answers { λ r. ⌜ now (answers .exit) ≡ sets (now (answers .entry)) 0 (madeRun part pins bits quota (now (trace .entry)) (now (memory .entry)) .answers) ⌝ }
-    ensures result { λ r. ⌜ now (result .exit) ≡ resultIn (madeRun part pins bits quota (now (trace .entry)) (now (memory .entry)) .count) (madeRun part pins bits quota (now (trace .entry)) (now (memory .entry)) .offset) (now (result .entry)) ⌝ }
+    ensures result { λ r. ⌜ now (result .exit) ≡ ranIn (madeRun part pins bits quota (now (trace .entry)) (now (memory .entry)) .count) (madeRun part pins bits quota (now (trace .entry)) (now (memory .entry)) .offset) (madeRun part pins bits quota (now (trace .entry)) (now (memory .entry)) .flag) (now (result .entry)) ⌝ }
 {
     let ran = made::replay_made(part, pins, bits, trace, quota as usize, memory, answers);
-    crate::result::write_result(result, ran.count as u64, ran.offset as u64);
+    crate::result::write_ran(result, ran.count as u64, ran.offset as u64, ran.flag as u64);
     ran.number
 }
 
@@ -45,7 +45,7 @@ pub extern "C" fn sildrokk_run(
 ) -> u8
     ensures number { λ r. ⌜ r ≡ madeRun part pins bits quota (now (trace .entry)) (now (memory .entry)) .number ⌝ }
     ensures memory { λ r. ⌜ now (memory .exit) ≡ madeRun part pins bits quota (now (trace .entry)) (now (memory .entry)) .memory ⌝ }
-    ensures result { λ r. ⌜ now (result .exit) ≡ resultIn (madeRun part pins bits quota (now (trace .entry)) (now (memory .entry)) .count) (madeRun part pins bits quota (now (trace .entry)) (now (memory .entry)) .offset) (now (result .entry)) ⌝ }
+    ensures result { λ r. ⌜ now (result .exit) ≡ ranIn (madeRun part pins bits quota (now (trace .entry)) (now (memory .entry)) .count) (madeRun part pins bits quota (now (trace .entry)) (now (memory .entry)) .offset) (madeRun part pins bits quota (now (trace .entry)) (now (memory .entry)) .flag) (now (result .entry)) ⌝ }
 {
     let mut answers = [0u8; 1];
     sildrokk_replay(part, pins, bits, quota, trace, memory, &mut answers, result)
@@ -68,9 +68,9 @@ pub extern "C" fn sildrokk_select(
     ensures number { λ r. ⌜ r ≡ madeSelect part pins bits (now (trace .entry)) (not (eqb wp 0)) (now (input .entry)) (now (output .entry)) (now (memory .entry)) .number ⌝ }
     ensures memory { λ r. ⌜ now (memory .exit) ≡ madeSelect part pins bits (now (trace .entry)) (not (eqb wp 0)) (now (input .entry)) (now (output .entry)) (now (memory .entry)) .memory ⌝ }
     ensures output { λ r. ⌜ now (output .exit) ≡ madeSelect part pins bits (now (trace .entry)) (not (eqb wp 0)) (now (input .entry)) (now (output .entry)) (now (memory .entry)) .output ⌝ }
-    ensures result { λ r. ⌜ now (result .exit) ≡ resultIn (madeSelect part pins bits (now (trace .entry)) (not (eqb wp 0)) (now (input .entry)) (now (output .entry)) (now (memory .entry)) .first) (madeSelect part pins bits (now (trace .entry)) (not (eqb wp 0)) (now (input .entry)) (now (output .entry)) (now (memory .entry)) .count) (now (result .entry)) ⌝ }
+    ensures result { λ r. ⌜ now (result .exit) ≡ selectedIn (madeSelect part pins bits (now (trace .entry)) (not (eqb wp 0)) (now (input .entry)) (now (output .entry)) (now (memory .entry)) .first) (madeSelect part pins bits (now (trace .entry)) (not (eqb wp 0)) (now (input .entry)) (now (output .entry)) (now (memory .entry)) .count) (now (result .entry)) ⌝ }
 {
     let selected = made::select_made(part, pins, bits, trace, wp != 0, input, output, memory);
-    crate::result::write_result(result, selected.first as u64, selected.count as u64);
+    crate::result::write_selected(result, selected.first as u64, selected.count as u64);
     selected.number
 }

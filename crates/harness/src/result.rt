@@ -1,8 +1,8 @@
-// Two numbers as sixteen bytes.
+// The figures of a run or a selection as bytes.
 ghost use mathlib.Core.Path.{_≡_};
 ghost use Prim.Native.Nat.{_≤_, _<_};
 ghost use lib.Seq.{sets};
-ghost use Rattle.harness.specs.Result.{byteOf, bytesOf, resultIn};
+ghost use Rattle.harness.specs.Result.{byteOf, bytesOf, ranIn, selectedIn};
 
 // Byte k of a number, the least significant being byte 0.
 fn byte_of(value: u64, k: u64) -> u8
@@ -14,7 +14,7 @@ fn byte_of(value: u64, k: u64) -> u8
 
 // A number as eight bytes, most significant first, from index start on.
 fn put_number(buffer: &mut [u8], start: usize, value: u64)
-    requires { ⌜ start ≤ 8 ⌝ }
+    requires { ⌜ start ≤ 16 ⌝ }
     ensures { λ r. ⌜ now (buffer .exit) ≡ sets (now (buffer .entry)) start (bytesOf 8 value) ⌝ }
 {
     let mut left: u64 = 8;
@@ -26,12 +26,23 @@ fn put_number(buffer: &mut [u8], start: usize, value: u64)
     }
 }
 
-// Count and offset of a run, first and count of a selection, if the buffer has sixteen bytes.
-pub fn write_result(result: &mut [u8], count: u64, offset: u64)
-    ensures { λ r. ⌜ now (result .exit) ≡ resultIn count offset (now (result .entry)) ⌝ }
+// Count, offset and flag of a run, if the buffer has twenty-four bytes.
+pub fn write_ran(result: &mut [u8], count: u64, offset: u64, flag: u64)
+    ensures { λ r. ⌜ now (result .exit) ≡ ranIn count offset flag (now (result .entry)) ⌝ }
 {
-    if result.len() == 16 {
+    if result.len() == 24 {
         put_number(&mut *result, 0, count);
         put_number(&mut *result, 8, offset);
+        put_number(&mut *result, 16, flag);
+    }
+}
+
+// First and count of a selection as bytes, if the buffer has sixteen bytes.
+pub fn write_selected(result: &mut [u8], first: u64, count: u64)
+    ensures { λ r. ⌜ now (result .exit) ≡ selectedIn first count (now (result .entry)) ⌝ }
+{
+    if result.len() == 16 {
+        put_number(&mut *result, 0, first);
+        put_number(&mut *result, 8, count);
     }
 }

@@ -18,13 +18,15 @@ use Rattle.transfer.specs.declared.levels.Levels.{Levels}
 use Rattle.transfer.specs.declared.phase.Phase.{Phase}
 use Rattle.i2c.specs.declared.sample.I2c.{I2c}
 use Rattle.transfer.specs.Edge.{edgeOf}
+use Rattle.transfer.specs.Flag.{flagOf}
 use Rattle.transfer.specs.Levels.{levelsOf}
 use Rattle.i2c.specs.Sample as I2cSample
 use Rattle.i2c.specs.Sample.{answerOf, stepOn, stepOf, Ready}
 use Rattle.chip.specs.declared.model.BusState.{BusState}
 use Rattle.chip.specs.declared.model.BusState.the-variants.{I2cOn}
 use Rattle.chip.specs.declared.model.Model.{Model}
-use Rattle.events.specs.Event.{Outcome, accepted, i2cSampled, advanceOf}
+use Rattle.events.specs.Event.{Outcome, sampled, i2cSampled, advanceOf}
+use Rattle.events.specs.Flag.{flagAt}
 use Rattle.chip.specs.Check.{Sound}
 use Rattle.chip.specs.Model.{modelOf}
 use Rattle.chip.proofs.CheckLaws.{sound-in, i2c-ready}
@@ -54,12 +56,12 @@ module _ (s : Model) (last : ℕ) (z : Bool) (b : AddressBuffer) (ph : Phase) (m
   abbrev stepped : Edge → Outcome
   stepped e =
       record {
-        result = accepted (answerOf (step e .i2c .pulling)) (i2cModel s x (step e .i2c .pulling) (step e .i2c .buffer) (step e .i2c .phase));
+        result = sampled (flagOf ph (levelsOf last) (levelsOf x)) (answerOf (step e .i2c .pulling)) (i2cModel s x (step e .i2c .pulling) (step e .i2c .buffer) (step e .i2c .phase));
         memory = applied (step e .write) m;
       }
 
   -- the levels are then those of x, and the answer is the pull then
-  by-edge : (e : Edge) → i2cSampled (i2cModel s last z b ph) m (step e) ≡ stepped e
+  by-edge : (e : Edge) → i2cSampled (i2cModel s last z b ph) m (flagOf ph (levelsOf last) (levelsOf x)) (step e) ≡ stepped e
   by-edge Start = refl
   by-edge Stop = refl
   by-edge (Rise line) = refl
@@ -87,13 +89,13 @@ pub turned-length : {r : Edge} {p : Part} {pins : ℕ} {x : I2c} {l : Levels} {m
 turned-length {r} {p} {pins} {x} {l} {m} w = ap length (w .memory) ∙ length-applied (stepOn (w .edge) p pins x l m .write) m
 
 -- the event at offset o is taken as the sample x, and its answer noted
-module _ {t : List ℕ} {q : ℕ} {goal : End} {c o : ℕ} {buf : List ℕ} (s : Model) (last : ℕ) (z : Bool) (b : AddressBuffer) (ph : Phase) (m : List ℕ)
-    (g : Going t q goal (i2cModel s last z b ph) c o m buf) (h : nextIs 8 (answerNumber (answerOf z)) q c (drop o t) ≡ true)
+module _ {t : List ℕ} {q : ℕ} {goal : End} {f c o : ℕ} {buf : List ℕ} (s : Model) (last : ℕ) (z : Bool) (b : AddressBuffer) (ph : Phase) (m : List ℕ)
+    (g : Going t q goal (i2cModel s last z b ph) f c o m buf) (h : nextIs 8 (answerNumber (answerOf z)) q c (drop o t) ≡ true)
     (p : Part) (ep : p ≡ partOf (s .part)) (x : ℕ) (ex : x ≡ firstSample last (drop o t)) (before l : Levels) (eb : before ≡ levelsOf last) (el : l ≡ levelsOf x)
     (r : Edge) (er : r ≡ edgeOf z before l) where
-  pub turn : (z' : Bool) (b' : AddressBuffer) (ph' : Phase) (m' buf' : List ℕ) → Turned r p (s .pins) (i2cOf (levelsOf last) z b ph) l m z' b' ph' m'
-      → buf' ≡ set buf c (answerNumber (answerOf z')) → Going t q goal (i2cModel s x z' b' ph') (c + 1) (o + 2) m' buf'
-  turn z' b' ph' m' buf' w noted =
+  pub turn : (f' : ℕ) (z' : Bool) (b' : AddressBuffer) (ph' : Phase) (m' buf' : List ℕ) → f' ≡ flagAt (length t) f o (flagOf ph before l) → Turned r p (s .pins) (i2cOf (levelsOf last) z b ph) l m z' b' ph' m'
+      → buf' ≡ set buf c (answerNumber (answerOf z')) → Going t q goal (i2cModel s x z' b' ph') f' (c + 1) (o + 2) m' buf'
+  turn f' z' b' ph' m' buf' ef w noted =
       let k : edgeOf z (levelsOf last) (levelsOf x) ≡ w .edge = rw (eb, el) at (sym er ∙ w .seen) in
-      rw (noted, w .memory, w .pulling, w .buffer, w .phase, ep, el)
+      rw (ef, noted, w .memory, w .pulling, w .buffer, w .phase, ep, eb, el)
       (takes g 8 (answerNumber (answerOf z)) (λ u. refl) h last refl x ex _ (steps s last z b ph m x (w .edge) k))

@@ -1,1 +1,2 @@
 pub mod I2cLaws
+pub mod ClockLaws

@@ -15,7 +15,8 @@ use transfer::edge::Edge;
 use transfer::phase::Field;
 use transfer::phase::Phase;
 
-// As many of these events as come one after the other from offset `start` on, within the quota, after `first` accepted events.
+// As many of these events as come one after the other from offset `start` on, within the quota, after `first` accepted events, of which
+// the first flagged one is at `earlier`.
 pub fn i2c_samples(
     part: Part,
     model: Model,
@@ -24,11 +25,12 @@ pub fn i2c_samples(
     quota: usize,
     first: usize,
     start: usize,
+    earlier: usize,
     memory: &mut [u8],
     answers: &mut [u8],
 ) -> Progress
     requires { ⌜ (part ≡ partOf (model .part)) × (model .bus ≡ I2cOn i2c) × Sound model (now memory) × (start ≤ length (now trace)) ⌝ }
-    ensures progress { λ r. ⌜ r ≡ progressBy first start (samplesOf (quota - first) (drop start (now (trace .entry))) model (now (memory .entry))) ⌝ }
+    ensures progress { λ r. ⌜ r ≡ progressBy (length (now (trace .entry))) earlier first start (samplesOf (quota - first) (drop start (now (trace .entry))) model (now (memory .entry))) ⌝ }
     ensures memory { λ r. ⌜ now (memory .exit) ≡ samplesOf (quota - first) (drop start (now (trace .entry))) model (now (memory .entry)) .memory ⌝ }
     ensures answers { λ r. ⌜ now (answers .exit) ≡ sets (now (answers .entry)) first (samplesOf (quota - first) (drop start (now (trace .entry))) model (now (memory .entry)) .answers) ⌝ }
 {
@@ -39,10 +41,13 @@ pub fn i2c_samples(
     let mut phase = i2c.phase;
     let mut count = first;
     let mut offset = start;
+    let mut flag = earlier;
     while crate::turn::next_is(trace, quota, count, offset, pulling) {
         let sample = samples::progress::first_sample(trace, offset, last);
         let levels = transfer::levels::levels_of(sample);
-        match transfer::edge::edge_of(pulling, transfer::levels::levels_of(last), levels) {
+        let before = transfer::levels::levels_of(last);
+        flag = crate::turn::flag_after(trace.len(), flag, offset, phase, before, levels);
+        match crate::turn::clock_first(pulling, last, sample) {
             Edge::Start => {
                 phase = transfer::rise::taking(Field::Word);
                 pulling = false;
@@ -74,5 +79,6 @@ pub fn i2c_samples(
         crate::turn::on_bus(last, pulling, buffer, phase),
         count,
         offset,
+        flag,
     )
 }

@@ -1,19 +1,24 @@
-// What one turn of the loop asks and does: whether there is a next event, what a rise stores, the answer noted.
+// What one turn of the loop asks and does: whether there is a next event, its edge and flag, what a rise stores, the answer noted.
 ghost use mathlib.Core.Path.{_≡_};
 ghost use Prim.Native.Nat.{_≤_};
 ghost use lib.ListN.{length, drop, set};
 ghost use Rattle.parts.specs.Numbers.{answerNumber};
 ghost use Rattle.serial.specs.Write.{applied};
+ghost use Rattle.transfer.specs.Edge.{edgeOf};
+ghost use Rattle.transfer.specs.Flag.{flagOf};
 ghost use Rattle.transfer.specs.Levels.{levelsOf};
 ghost use Rattle.transfer.specs.Ranges.{PhaseIn};
 ghost use Rattle.i2c.specs.Sample.{answerOf};
 ghost use Rattle.i2c.specs.Store.{riseWrite};
 ghost use Rattle.chip.specs.declared.model.BusState.the-variants.{I2cOn};
+ghost use Rattle.events.specs.Flag.{flagAt};
 ghost use Rattle.samples.specs.Samples.{nextIs, i2cOf};
 use chip::model::BusState;
 use i2c::sample::I2c;
 use parts::part::Part;
 use transfer::buffer::AddressBuffer;
+use transfer::edge::Edge;
+use transfer::levels::Levels;
 use transfer::phase::Phase;
 
 // The state of the bus after a sample.
@@ -36,6 +41,43 @@ pub fn note_pull(answers: &mut [u8], at: usize, pulling: bool)
 {
     let answer = i2c::sample::answer_of(pulling);
     samples::note::note(answers, at, answer.number());
+}
+
+// What happens between two samples, by SCL first: most have an edge of it, for which the line before does not matter.
+pub fn clock_first(pulling: bool, last: u8, sample: u8) -> Edge
+    ensures { λ r. ⌜ r ≡ edgeOf pulling (levelsOf last) (levelsOf sample) ⌝ }
+{
+    let before = transfer::levels::levels_of(last);
+    let now = transfer::levels::levels_of(sample);
+    if last % 2 == sample % 2 {
+        if now.scl {
+            transfer::edge::edge_of(pulling, before, now)
+        } else {
+            Edge::Quiet
+        }
+    } else {
+        if now.scl {
+            let line = transfer::edge::line_of(now.sda, pulling);
+            Edge::Rise { line }
+        } else {
+            Edge::Fall
+        }
+    }
+}
+
+// The offset of the first flagged event, once the sample at offset is taken in this phase.
+pub fn flag_after(
+    length: usize,
+    flag: usize,
+    offset: usize,
+    phase: Phase,
+    before: Levels,
+    now: Levels,
+) -> usize
+    ensures { λ r. ⌜ r ≡ flagAt length flag offset (flagOf phase before now) ⌝ }
+{
+    let flagged = transfer::flag::flag_of(phase, before, now);
+    samples::progress::flag_at(length, flag, offset, flagged)
 }
 
 // What a rise of SCL writes is stored.

@@ -20,3 +20,4 @@ pub mod SpiOutputs
 pub mod SpiAnswers
 pub mod SpiSentences
 pub mod SpiAnswerExamples
+pub mod Flags

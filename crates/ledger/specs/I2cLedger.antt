@@ -46,18 +46,19 @@ itemsOnEdge (Rise line) wp is = withClock (record { line = line; wp = wp }) is
 itemsOnEdge Fall wp is = is
 itemsOnEdge Quiet wp is = is
 
--- SCL and the line at a sample
+-- SCL, the line and WP at a sample
 pub record Wires : Type 0 where
   pub scl : Bool
   pub line : Bool
+  pub wp : Bool
 
 -- the line is high only if others leave SDA high and the part does not answer 0
 abbrev pub wiresAt : Levels → ℕ → Wires
-wiresAt l answer = record { scl = l .scl; line = l .sda && not (eqb answer 0) }
+wiresAt l answer = record { scl = l .scl; line = l .sda && not (eqb answer 0); wp = l .wp }
 
 -- before power on there is no sample
 abbrev pub noWires : Wires
-noWires = record { scl = false; line = false }
+noWires = record { scl = false; line = false; wp = false }
 
 abbrev pub wiresAfter : Event → ℕ → Wires → Wires
 wiresAfter (SpiPowerOn x) answer w = w

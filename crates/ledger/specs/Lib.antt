@@ -10,3 +10,4 @@ pub mod SpiAnswers
 pub mod Steps
 pub mod Selections
 pub mod Spans
+pub mod Flags

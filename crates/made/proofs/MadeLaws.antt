@@ -29,7 +29,7 @@ module _ (part pins bits quota : ℕ) (t m : List ℕ) (made : Made) (e : made �
   unfolding madeRun
   made-ran z = rw (← e, eq-eqb _ _ z)
 
-  pub made-refused : (made .number ≡ 0 → ⊥) → madeRun part pins bits quota t m ≡ stop (made .number) (made .model) m
+  pub made-refused : (made .number ≡ 0 → ⊥) → madeRun part pins bits quota t m ≡ stop (made .number) t (made .model) m
   unfolding madeRun
   made-refused z = rw (← e, ne-eqb _ _ z)
 
@@ -40,7 +40,7 @@ made-counted part pins bits quota t m = by (eqb (made .number) 0)
     made : Made
     made = makeOf part pins bits
 
-    by : (y : Bool) → Counted (length t) (cond y (runOf quota t (made .model) m) (stop (made .number) (made .model) m))
+    by : (y : Bool) → Counted (length t) (cond y (runOf quota t (made .model) m) (stop (made .number) t (made .model) m))
     by true = run-counted quota t (made .model) m
     by false = record { answered = refl; within = omega arith }
 
@@ -63,9 +63,9 @@ made-sound part pins bits quota t m = by (eqb (made .number) 0) refl
     made : Made
     made = makeOf part pins bits
 
-    by : (y : Bool) → eqb (made .number) 0 ≡ y → cond y (runOf quota t (made .model) m) (stop (made .number) (made .model) m) .number ≡ 0
-        → Sound (cond y (runOf quota t (made .model) m) (stop (made .number) (made .model) m) .model)
-        (cond y (runOf quota t (made .model) m) (stop (made .number) (made .model) m) .memory)
+    by : (y : Bool) → eqb (made .number) 0 ≡ y → cond y (runOf quota t (made .model) m) (stop (made .number) t (made .model) m) .number ≡ 0
+        → Sound (cond y (runOf quota t (made .model) m) (stop (made .number) t (made .model) m) .model)
+        (cond y (runOf quota t (made .model) m) (stop (made .number) t (made .model) m) .memory)
     by true e z = run-sound quota t (made .model) m z
     by false e z = absurd (eqb-false _ _ e z)
 

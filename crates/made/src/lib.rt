@@ -8,7 +8,7 @@ ghost use Rattle.selects.specs.Selected.{selectedOf};
 use runs::run::Ran;
 use selects::select::Selected;
 
-// If the making is refused nothing is run: its number and its model come back, with count and offset 0.
+// If the making is refused nothing is run: its number and its model come back, with count and offset 0 and no flag.
 pub fn replay_made(
     part: u32,
     pins: u32,
@@ -27,7 +27,7 @@ pub fn replay_made(
     if made.number == 0 {
         model::run::replay(start, trace, quota, memory, answers)
     } else {
-        runs::run::ended(made.number, start, 0, 0)
+        runs::run::ended(made.number, start, 0, 0, trace.len())
     }
 }
 

@@ -20,7 +20,7 @@ pub fn replay(
 {
     match chip::check::check(model, memory.len()) {
         Verdict::Passed => runs::run::replay_checked(model, trace, quota, memory, answers),
-        Verdict::Failed { refusal } => runs::run::ended(refusal.number(), model, 0, 0),
+        Verdict::Failed { refusal } => runs::run::ended(refusal.number(), model, 0, 0, trace.len()),
     }
 }
 

@@ -58,7 +58,7 @@ i2c-unsaved (suc (suc (suc (suc zero)))) h = refl
 i2c-unsaved (suc (suc (suc (suc (suc n))))) h = refl
 
 -- the sample is the last one then
-sample-last : (p : Part) (st : Status) (s : SpiState.Spi) (l : SpiLevel.Levels) (m : List ℕ) → l ≡ SpiSample.stepOf p st s l m .spi .last
+pub sample-last : (p : Part) (st : Status) (s : SpiState.Spi) (l : SpiLevel.Levels) (m : List ℕ) → l ≡ SpiSample.stepOf p st s l m .spi .last
 unfolding SpiSample.stepOf
 sample-last p st s l m = by (edgeOf (s .last) l)
   where

@@ -250,7 +250,7 @@ module _ (p : Part) (t : List ℕ) where
     done-placed : {o : Outcome} → Done s m o → 0 ≡ fieldAt (o .result .number)
     done-placed (refused-with n l h) =
         rw (ne-eqb n 6 (λ z. omega arith), ne-eqb n 10 (λ z. omega arith), ne-eqb n 11 (λ z. omega arith))
-    done-placed (accepted-as a x left u v) = refl
+    done-placed (accepted-as a f x left u v) = refl
 
     read-placed : (r : Read) → Found p t r → placeOf r ≡ fieldAt (onRead r s m .result .number)
     read-placed (Whole e n) (whole k g) = done-placed (done s m e)
@@ -282,13 +282,13 @@ event-judged {s} r m t = rw (reached-check r (length m)) (by (eqb (length m) (pa
 module _ (l : ℕ) where
   -- nothing accepted
   points-here : (p : Part) (t : List ℕ) (n place : ℕ) (s : Model) (m : List ℕ) → Judged p l t n → (4 ≤ n → 0 < length t) → place ≡ fieldAt n
-      → Points p l t (stopAt n place s m)
+      → Points p l t (stopAt n place t s m)
   points-here p t n place s m j some e =
       record { accepted = λ i h. absurd (omega arith); judged = j; there = some; offset = rw e (sym (zero-add (fieldAt n))) }
 
   -- one accepted event before a run
-  points-after : (p : Part) (t : List ℕ) (a : ℕ) (r : Run) → Faultless p t → Points p l (drop (taken t) t) r → Points p l t (after a (taken t) r)
-  points-after p t a r g k =
+  points-after : (p : Part) (t : List ℕ) (a : ℕ) (f : Bool) (r : Run) → Faultless p t → Points p l (drop (taken t) t) r → Points p l t (after a f (taken t) r)
+  points-after p t a f r g k =
       let more : 1 + r .count ≡ suc (r .count) = omega arith in
       record {
         accepted = each;
@@ -304,7 +304,7 @@ module _ (l : ℕ) where
   abbrev Pointing : ℕ → List ℕ → Model → List ℕ → Run → Type 0
   Pointing q t s m r = Sound s m → Points (partOf (s .part)) l t r
 
-  stops-point : (q n place : ℕ) (t : List ℕ) (s : Model) (m : List ℕ) → Stops t s m q n place → Pointing q t s m (stopAt n place s m)
+  stops-point : (q n place : ℕ) (t : List ℕ) (s : Model) (m : List ℕ) → Stops t s m q n place → Pointing q t s m (stopAt n place t s m)
   unfolding eventOf
   stops-point q n place t s m at-quota sound = points-here (partOf (s .part)) t 0 0 s m number-0 (λ h. absurd (omega arith)) refl
   stops-point q n place t s m (at-end z) sound = points-here (partOf (s .part)) t 0 0 s m number-0 (λ h. absurd (omega arith)) refl
@@ -314,10 +314,10 @@ module _ (l : ℕ) where
 
   goes-on-pointing : (q : ℕ) (t : List ℕ) (s : Model) (m : List ℕ) → (length t ≡ 0 → ⊥) → eventOf s m t .result .number ≡ 0 → (r : Run)
       → Pointing q (drop (taken t) t) (eventOf s m t .result .model) (eventOf s m t .memory) r
-      → Pointing (suc q) t s m (after (eventOf s m t .result .answer) (taken t) r)
+      → Pointing (suc q) t s m (after (eventOf s m t .result .answer) (eventOf s m t .result .flag) (taken t) r)
   goes-on-pointing q t s m some none r k sound =
       let rest = rw (event-stays s m t .part-stays) at (k (event-sound s m t sound)) in
-      points-after (partOf (s .part)) t (eventOf s m t .result .answer) r (sound-judged l s m t sound .accepted none) rest
+      points-after (partOf (s .part)) t (eventOf s m t .result .answer) (eventOf s m t .result .flag) r (sound-judged l s m t sound .accepted none) rest
 
 -- of a reached state, with any memory
 pub run-points : {s : Model} → Reached s → (q : ℕ) (t m : List ℕ) → Points (partOf (s .part)) (length m) t (runOf q t s m)

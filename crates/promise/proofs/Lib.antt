@@ -19,9 +19,12 @@ pub mod SpiAnswersShown
 pub mod SpiAnswersBytes
 pub mod SpiAnswersExample
 pub mod Answers
+pub mod FirstAt
 pub mod RunEvents
 pub mod Fields
+pub mod Flags
 pub mod PinSamples
+pub mod StillSamples
 pub mod Selects
 pub mod SelectSteps
 pub mod SelectAnswers

@@ -68,7 +68,7 @@ read-late p t =
 
 done-late : {s : Model} {m : List ℕ} {o : Outcome} → Done s m o → Late (o .result .number)
 done-late (refused-with n l h) = (ne-eqb n 1 (λ e. omega arith), ne-eqb n 2 (λ e. omega arith))
-done-late (accepted-as a after left q r) = (refl, refl)
+done-late (accepted-as a f after left q r) = (refl, refl)
 
 -- ---- any bytes on a reached state
 
@@ -142,6 +142,6 @@ select-never-one-or-two {s} r wp input output m =
 
 -- number 3, answer 2, the given state and memory
 pub wrong-length : {s : Model} → Reached s → (m t : List ℕ) → (length m ≡ partOf (s .part) .size → ⊥)
-    → eventOf s m t ≡ keeping m (record { number = 3; answer = 2; model = s })
+    → eventOf s m t ≡ keeping m (record { number = 3; answer = 2; flag = false; model = s })
 unfolding eventOf
 wrong-length r m t n = rw (reached-check r (length m), ne-eqb (length m) _ n)

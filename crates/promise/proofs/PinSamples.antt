@@ -30,7 +30,7 @@ use Rattle.runs.specs.Run.{Run, after, loopOf}
 use Rattle.runs.proofs.EventLaws.{event-whole, event-keeps}
 use Rattle.runs.proofs.RunLaws.{loop-over, loop-accepted}
 use Rattle.promise.specs.Lists.{observations, modelAfter, memoryAfter}
-use Rattle.promise.specs.RunEvents.{numbersOf, answersOf}
+use Rattle.promise.specs.RunEvents.{numbersOf, answersOf, flagsOf}
 use Rattle.promise.specs.Selects.{sampleEvents, traceOf}
 
 -- ---- an SPI part under power
@@ -98,7 +98,7 @@ abbrev pub Below : List ℕ → Type 0
 Below [] = Unit {0}
 Below (x ∷ xs) = (x < 32) × Below xs
 
--- on the pins, and what each answers
+-- on the pins, what each answers, and whether it is flagged
 abbrev pub sampledAll : Pins → List ℕ → Pins
 sampledAll a [] = a
 sampledAll a (x ∷ xs) = sampledAll (sampled a x) xs
@@ -107,15 +107,20 @@ abbrev pub answersAll : Pins → List ℕ → List ℕ
 answersAll a [] = []
 answersAll a (x ∷ xs) = sampled a x .answer ∷ answersAll (sampled a x) xs
 
+abbrev pub flagsAll : Pins → List ℕ → List Bool
+flagsAll a [] = []
+flagsAll a (x ∷ xs) = advanceOf (a .model) (a .memory) (Sample x) .result .flag ∷ flagsAll (sampled a x) xs
+
 -- what is said of them as events: all are accepted, and leave what they leave on the pins
 pub record Spelt (a : Pins) (xs : List ℕ) : Type 0 where
   pub accepted : numbersOf (observations (a .model) (a .memory) (sampleEvents xs)) ≡ replicate (length (sampleEvents xs)) 0
   pub answers : answersOf (observations (a .model) (a .memory) (sampleEvents xs)) ≡ answersAll a xs
+  pub flags : flagsOf (observations (a .model) (a .memory) (sampleEvents xs)) ≡ flagsAll a xs
   pub model : modelAfter (a .model) (a .memory) (sampleEvents xs) ≡ sampledAll a xs .model
   pub memory : memoryAfter (a .model) (a .memory) (sampleEvents xs) ≡ sampledAll a xs .memory
 
 pub spelt : (xs : List ℕ) (a : Pins) → Ready a → Below xs → Spelt a xs
-spelt [] a ready below = record { accepted = refl; answers = refl; model = refl; memory = refl }
+spelt [] a ready below = record { accepted = refl; answers = refl; flags = refl; model = refl; memory = refl }
 spelt (x ∷ xs) a ready (l, below) =
     let e = sample-event a ready x l [] in
     let n = sample-accepted a ready x l in
@@ -123,30 +128,35 @@ spelt (x ∷ xs) a ready (l, below) =
     record {
       accepted = rw (e, n, k .accepted);
       answers = rw (e, k .answers);
+      flags = rw (e, k .flags);
       model = ap (λ (o : Outcome). modelAfter (o .result .model) (o .memory) (sampleEvents xs)) e ∙ k .model;
       memory = ap (λ (o : Outcome). memoryAfter (o .result .model) (o .memory) (sampleEvents xs)) e ∙ k .memory;
     }
 
--- the same as one run
+-- the same as one run, if none is flagged
 abbrev ranTo : Pins → List ℕ → ℕ → ℕ → Run
-ranTo a answers c o = record { number = 0; model = a .model; count = c; offset = o; memory = a .memory; answers = answers }
+ranTo a answers c o = record { number = 0; model = a .model; count = c; offset = o; flag = o; memory = a .memory; answers = answers }
+
+abbrev pub AllClear : List Bool → Type 0
+AllClear [] = Unit {0}
+AllClear (f ∷ fs) = (f ≡ false) × AllClear fs
 
 abbrev pub ranAll : Pins → List ℕ → Run
 ranAll a xs = ranTo (sampledAll a xs) (answersAll a xs) (length (sampleEvents xs)) (length (traceOf (sampleEvents xs)))
 
-pub loop-all : (xs : List ℕ) (q : ℕ) (a : Pins) → Ready a → Below xs → length (sampleEvents xs) ≤ q
+pub loop-all : (xs : List ℕ) (q : ℕ) (a : Pins) → Ready a → Below xs → AllClear (flagsAll a xs) → length (sampleEvents xs) ≤ q
     → loopOf q (traceOf (sampleEvents xs)) (a .model) (a .memory) ≡ ranAll a xs
-loop-all [] q a ready below h = loop-over [] (a .model) (a .memory) q refl
-loop-all (x ∷ xs) zero a ready below h = absurd (omega arith)
-loop-all (x ∷ xs) (suc q) a ready (l, below) h =
+loop-all [] q a ready below clear h = loop-over [] (a .model) (a .memory) q refl
+loop-all (x ∷ xs) zero a ready below clear h = absurd (omega arith)
+loop-all (x ∷ xs) (suc q) a ready (l, below) (no-flag, clear) h =
     let t : List ℕ = 4 ∷ x ∷ traceOf (sampleEvents xs) in
     let e = sample-event a ready x l (traceOf (sampleEvents xs)) in
     let n = sample-accepted a ready x l in
-    let k = loop-all xs q (sampled a x) (sample-ready a ready x l) below (omega arith) in
+    let k = loop-all xs q (sampled a x) (sample-ready a ready x l) below clear (omega arith) in
     loop-accepted t (a .model) (a .memory) q (λ z. omega arith) (rw e n)
-    ∙ rw (e, k) (one-more (sampledAll a (x ∷ xs)) (sampled a x .answer) (answersAll (sampled a x) xs) (length (sampleEvents xs)) (length (traceOf (sampleEvents xs))))
+    ∙ rw (e, k, no-flag) (one-more (sampledAll a (x ∷ xs)) (sampled a x .answer) (answersAll (sampled a x) xs) (length (sampleEvents xs)) (length (traceOf (sampleEvents xs))))
   where
-    one-more : (b : Pins) (v : ℕ) (vs : List ℕ) (c o : ℕ) → after v 2 (ranTo b vs c o) ≡ ranTo b (v ∷ vs) (suc c) (suc (suc o))
+    one-more : (b : Pins) (v : ℕ) (vs : List ℕ) (c o : ℕ) → after v false 2 (ranTo b vs c o) ≡ ranTo b (v ∷ vs) (suc c) (suc (suc o))
     one-more b v vs c o =
         let c₁ : 1 + c ≡ suc c = omega arith in
         let o₂ : 2 + o ≡ suc (suc o) = omega arith in

@@ -22,11 +22,13 @@ use Rattle.chip.specs.Check.{checkOf}
 use Rattle.runs.specs.Event.{eventOf}
 use Rattle.runs.specs.Event as One
 use Rattle.runs.specs.Run.{Run, stopAt, after, runOnVerdict, loopOf, runOf}
+use Rattle.runs.proofs.EventLaws.{accepted-within}
 use Rattle.runs.proofs.RunLaws.{taken, Stops, at-quota, at-end, at-refusal, loop-induction}
 use Rattle.promise.specs.Lists.{modelAfter, memoryAfter}
 use Rattle.promise.specs.Promise.{madeBy}
 use Rattle.promise.specs.RunEvents.{split, ByEvents, Call, ranBy, modelRun, memoryRun, eventsRun, RunsPromise}
 use Rattle.promise.proofs.Demand3.{demand3}
+use Rattle.promise.proofs.FirstAt.{first-stopped, first-more}
 use Rattle.promise.proofs.Joins.{model-join, memory-join}
 
 -- ---- an event looks at no more bytes than its kind fixes
@@ -53,7 +55,7 @@ read-front p t = by (ltb (length t) (taken t)) refl
         let k : getD t 0 0 ≡ getD (take (taken t) t) 0 0 = rw (take-append-drop (taken t) t) at (List·getD-append (take (taken t) t) (drop (taken t) t) 0 0 some) in
         sym (rw (take-append-drop (taken t) t) at (read-exact p (take (taken t) t) (drop (taken t) t) (n ∙ ap eventLength k)))
 
-event-same : (s : Model) (m t : List ℕ) → eventOf s m (take (taken t) t) ≡ eventOf s m t
+pub event-same : (s : Model) (m t : List ℕ) → eventOf s m (take (taken t) t) ≡ eventOf s m t
 unfolding eventOf
 event-same s m t = by (checkOf s (length m))
   where
@@ -70,33 +72,37 @@ take-more c u es = rw (one-add c)
     one-add : (k : ℕ) → 1 + k ≡ suc k
     one-add k = omega arith
 
-module _ (es : List (List ℕ)) (s : Model) (m : List ℕ) where
+module _ (es : List (List ℕ)) (t : List ℕ) (s : Model) (m : List ℕ) where
   -- no event is left
-  ran-none : length es ≡ 0 → ByEvents es s m (stopAt 0 0 s m)
+  ran-none : length es ≡ 0 → ByEvents es t s m (stopAt 0 0 t s m)
   ran-none h =
       record {
         model = refl;
         memory = refl;
         accepted = refl;
         answers = refl;
+        flag = first-stopped _ 0 0 t s m;
         refused = λ z. absurd (z refl);
         whole = λ z. sym h;
       }
 
   -- the next one is refused
-  ran-refused : (n place : ℕ) → (n ≡ 0 → ⊥) → eventOf s m (getD es 0 []) .result .number ≡ n → ByEvents es s m (stopAt n place s m)
+  ran-refused : (n place : ℕ) → (n ≡ 0 → ⊥) → eventOf s m (getD es 0 []) .result .number ≡ n → ByEvents es t s m (stopAt n place t s m)
   ran-refused n place h e =
-      record { model = refl; memory = refl; accepted = refl; answers = refl; refused = λ z. e; whole = λ z. absurd (h z) }
+      record { model = refl; memory = refl; accepted = refl; answers = refl; flag = first-stopped _ n place t s m; refused = λ z. e; whole = λ z. absurd (h z) }
 
-  -- an event u before them is accepted
-  ran-more : (u : List ℕ) (n : ℕ) (r : Run) → eventOf s m u .result .number ≡ 0 → ByEvents es (eventOf s m u .result .model) (eventOf s m u .memory) r
-      → ByEvents (u ∷ es) s m (after (eventOf s m u .result .answer) n r)
-  ran-more u n r z k =
+-- an event u before them is accepted, the first of t
+module _ (es : List (List ℕ)) (t : List ℕ) (s : Model) (m : List ℕ) where
+  ran-more : (u : List ℕ) (r : Run) → taken t ≤ length t → eventOf s m u .result .number ≡ 0
+      → ByEvents es (drop (taken t) t) (eventOf s m u .result .model) (eventOf s m u .memory) r
+      → ByEvents (u ∷ es) t s m (after (eventOf s m u .result .answer) (eventOf s m u .result .flag) (taken t) r)
+  ran-more u r within z k =
       record {
         model = rw (take-more (r .count) u es) (k .model);
         memory = rw (take-more (r .count) u es) (k .memory);
         accepted = rw (take-more (r .count) u es, z, k .accepted) (zeros (r .count));
         answers = rw (take-more (r .count) u es, k .answers);
+        flag = first-more _ _ t r _ within (λ i w. w) (λ i w. w) _ (record { set = λ w. w; only = λ w. w }) (k .flag);
         refused = λ w. rw (next (r .count)) (k .refused w);
         whole = λ w. let e = k .whole w in omega arith;
       }
@@ -108,33 +114,33 @@ module _ (es : List (List ℕ)) (s : Model) (m : List ℕ) where
       next c = let k : 1 + c ≡ suc c = omega arith in rw k
 
 abbrev Ran : ℕ → List ℕ → Model → List ℕ → Run → Type 0
-Ran q t s m r = ByEvents (split q t) s m r
+Ran q t s m r = ByEvents (split q t) t s m r
 
-stops-ran : (q n place : ℕ) (t : List ℕ) (s : Model) (m : List ℕ) → Stops t s m q n place → Ran q t s m (stopAt n place s m)
-stops-ran q n place t s m at-quota = ran-none [] s m refl
-stops-ran q n place t s m (at-end z) = rw (eq-eqb _ _ z) (ran-none [] s m refl)
+stops-ran : (q n place : ℕ) (t : List ℕ) (s : Model) (m : List ℕ) → Stops t s m q n place → Ran q t s m (stopAt n place t s m)
+stops-ran q n place t s m at-quota = ran-none [] t s m refl
+stops-ran q n place t s m (at-end z) = rw (eq-eqb _ _ z) (ran-none [] t s m refl)
 stops-ran q n place t s m (at-refusal {q = j} some not-0) =
-    rw (ne-eqb _ _ some) (ran-refused (take (taken t) t ∷ split j (drop (taken t) t)) s m _ _ not-0 (rw (event-same s m t)))
+    rw (ne-eqb _ _ some) (ran-refused (take (taken t) t ∷ split j (drop (taken t) t)) t s m _ _ not-0 (rw (event-same s m t)))
 
 goes-on-ran : (q : ℕ) (t : List ℕ) (s : Model) (m : List ℕ) → (length t ≡ 0 → ⊥) → eventOf s m t .result .number ≡ 0 → (r : Run)
     → Ran q (drop (taken t) t) (eventOf s m t .result .model) (eventOf s m t .memory) r
-    → Ran (suc q) t s m (after (eventOf s m t .result .answer) (taken t) r)
+    → Ran (suc q) t s m (after (eventOf s m t .result .answer) (eventOf s m t .result .flag) (taken t) r)
 goes-on-ran q t s m some none r k =
     let e = event-same s m t in
     rw (ne-eqb _ _ some)
-    (rw e at (ran-more (split q (drop (taken t) t)) s m (take (taken t) t) (taken t) r (rw e none) (rw e k)))
+    (rw e at (ran-more (split q (drop (taken t) t)) t s m (take (taken t) t) r (accepted-within s m t none) (rw e none) (rw e k)))
 
-loop-ran : (q : ℕ) (t : List ℕ) (s : Model) (m : List ℕ) → ByEvents (split q t) s m (loopOf q t s m)
+loop-ran : (q : ℕ) (t : List ℕ) (s : Model) (m : List ℕ) → ByEvents (split q t) t s m (loopOf q t s m)
 loop-ran = loop-induction Ran stops-ran goes-on-ran
 
 -- for any state, memory, trace and quota
-pub run-events : (q : ℕ) (t : List ℕ) (s : Model) (m : List ℕ) → ByEvents (split q t) s m (runOf q t s m)
+pub run-events : (q : ℕ) (t : List ℕ) (s : Model) (m : List ℕ) → ByEvents (split q t) t s m (runOf q t s m)
 unfolding runOf eventOf
 run-events q t s m = by (checkOf s (length m)) refl
   where
-    by : (v : Verdict) → checkOf s (length m) ≡ v → ByEvents (split q t) s m (runOnVerdict v q t s m)
+    by : (v : Verdict) → checkOf s (length m) ≡ v → ByEvents (split q t) t s m (runOnVerdict v q t s m)
     by Passed e = loop-ran q t s m
-    by (Failed r) e = ran-refused (split q t) s m (refusalNumber r) 0 (number-positive r) (failed (getD (split q t) 0 []))
+    by (Failed r) e = ran-refused (split q t) t s m (refusalNumber r) 0 (number-positive r) (failed (getD (split q t) 0 []))
       where
         failed : (u : List ℕ) → eventOf s m u .result .number ≡ refusalNumber r
         failed u = rw e

@@ -15,7 +15,10 @@ use Rattle.promise.specs.Answers.{ledgerAnswer}
 use Rattle.promise.specs.Selects.{pinEvents, pinAnswers, backsIn}
 use Rattle.promise.specs.SelectSteps.{Step, event, modelSteps, memorySteps, eventsSteps}
 use Rattle.promise.specs.SelectAnswers.{saidOf, next, saidBack, StepsAnswers}
+use Rattle.ledger.specs.Flags.{Exactly}
+use Rattle.promise.specs.Flags.{Warned}
 use Rattle.promise.proofs.Answers.{answers}
+use Rattle.promise.proofs.Flags.{flag-said}
 use Rattle.promise.proofs.Joins.{model-join, memory-join}
 use Rattle.promise.proofs.Selects.{as-events}
 use Rattle.promise.proofs.SelectSteps.{steps-leave}
@@ -48,6 +51,12 @@ module _ (part pins bits : ℕ) (first : List ℕ) where
         let k = rw (l .0, l .1) at (answers part pins bits first (eventsSteps start first xs) t) in
         λ z. ap (λ (a : ℕ). a ∷ []) (k z)
 
+    event-flagged : (t : List ℕ) → next part pins bits first xs (event t) .number ≡ 0
+        → Exactly (next part pins bits first xs (event t) .flag) (Warned start (historyOf start first (eventsSteps start first xs ++ (t ∷ []))))
+    event-flagged t =
+        let l = steps-leave xs start first in
+        rw (l .0, l .1) at (flag-said part pins bits first (eventsSteps start first xs) t)
+
     -- the pin events of a selection that is accepted
     back-said : (wp : Bool) (input output : List ℕ) → selectOf wp s input output m .number ≡ 0
         → backsIn (length input) (pinAnswers wp s m input) ≡ saidBack part pins bits first xs wp input
@@ -60,6 +69,7 @@ module _ (part pins bits : ℕ) (first : List ℕ) where
     steps-answers =
         record {
           by-event = event-said;
+          flagged = event-flagged;
           by-select = λ wp input output z. as-events wp s input output m z .buffer ∙ ap bytesOf (back-said wp input output z);
           first-driven = λ wp input output z. as-events wp s input output m z .first ∙ ap firstDriven (back-said wp input output z);
           driven-count = λ wp input output z. as-events wp s input output m z .count ∙ ap drivenCount (back-said wp input output z);

@@ -4,6 +4,7 @@ use Prim.Native.Nat.{ℕ, suc, _+_, _*_, _≤_}
 use mathlib.Core.Path.{_≡_, refl, sym, ap, _∙_}
 use mathlib.Core.Bool.{Bool, true, false, cond}
 use mathlib.Core.List.{List, [], _∷_, _++_}
+use mathlib.Core.Logic.{inl}
 use native.Mathlib.Omega.{arith}
 use lib.Dec.{eqb}
 use lib.ListN.{length, length-append}
@@ -23,6 +24,7 @@ use Rattle.byte_path.specs.Select.{Select, refusedSelect, takenSelect, sizedSel
 use Rattle.runs.specs.Run.{runOf}
 use Rattle.promise.specs.Selects.{byteSamples, bitSamples, selectSamples, sampleEvents, traceOf, pinEvents, beforeRises, bytesIn, backsIn, pinAnswers, AsEvents}
 use Rattle.promise.proofs.PinSamples.{spiPowered, Ready, Below, sampledAll, answersAll, spelt, loop-all}
+use Rattle.promise.proofs.StillSamples.{Before, all-clear, still-select, clear-flags}
 
 -- ---- the samples are in range, and so many
 
@@ -93,22 +95,27 @@ module _ (wp : Bool) (s : Model) (input output m : List ℕ) where
   whole = takenSelect wp s input output m (selectionOf wp s m input)
 
   -- a test before it has passed
+  passed : (t : Bool) (x : Select) (r : Refusal) → cond t x (refusedBy r) .number ≡ 0 → t ≡ true
+  passed true x r h = refl
+  passed false x r h = absurd (number-positive r h)
+
   passes : (t : Bool) (x : Select) (r : Refusal) → cond t x (refusedBy r) .number ≡ 0 → cond t x (refusedBy r) ≡ x
-  passes true x r h = refl
-  passes false x r h = absurd (number-positive r h)
+  passes t x r h = rw (passed t x r h)
 
   sized : sizedSelect wp s input output m .number ≡ 0 → sizedSelect wp s input output m ≡ whole
   sized h = passes (eqb (length output) (length input)) whole BufferLength h
 
-  on-bus : (b : BusState) → busSelect wp s input output m b .number ≡ 0 → (spiPowered b ≡ true) × (busSelect wp s input output m b ≡ whole)
+  on-bus : (b : BusState) → busSelect wp s input output m b .number ≡ 0
+      → (spiPowered b ≡ true) × (busSelect wp s input output m b ≡ whole) × Before wp b
   on-bus Unpowered h = absurd (number-positive NotDeselected h)
   on-bus (SpiOn x) h =
       let e = passes (x .last .cs) (sizedSelect wp s input output m) NotDeselected h in
-      (refl, e ∙ sized (sym (ap (λ (y : Select). y .number) e) ∙ h))
+      (refl, e ∙ sized (sym (ap (λ (y : Select). y .number) e) ∙ h), inl (passed (x .last .cs) (sizedSelect wp s input output m) NotDeselected h))
   on-bus (I2cOn x) h = absurd (number-positive NotDeselected h)
 
   record Taken : Type 0 where
     ready : Ready start
+    before : Before wp (s .bus)
     all : selectOf wp s input output m ≡ whole
 
   taken : selectOf wp s input output m .number ≡ 0 → Taken
@@ -119,7 +126,7 @@ module _ (wp : Bool) (s : Model) (input output m : List ℕ) where
       by Passed e z =
           let k = passes (isSpi (partOf (s .part) .bus)) (busSelect wp s input output m (s .bus)) UnknownKind z in
           let b = on-bus (s .bus) (sym (ap (λ (y : Select). y .number) k) ∙ z) in
-          record { ready = record { sound = e; powered = b .0 }; all = rw e (k ∙ b .1) }
+          record { ready = record { sound = e; powered = b .0 }; before = b .2; all = rw e (k ∙ b .1) }
       by (Failed r) e z = absurd (number-positive r z)
 
   -- ---- the theorem
@@ -141,6 +148,7 @@ module _ (wp : Bool) (s : Model) (input output m : List ℕ) where
   as-events h =
       let t = taken h in
       let k = spelt xs start (t .ready) (below-select wp input) in
+      let clear = all-clear wp xs start (t .before) (still-select wp input) in
       let backs : backsIn (length input) (pinAnswers wp s m input) ≡ bytesBack wp (fallen wp s m input) input = ap (backsIn (length input)) (k .answers) ∙ back in
       let model : sampledAll start xs .model ≡ selectOf wp s input output m .model = ap (λ (a : Pins). a .model) ended ∙ sym (ap (λ (y : Select). y .model) (t .all)) in
       let memory : sampledAll start xs .memory ≡ selectOf wp s input output m .memory = ap (λ (a : Pins). a .memory) ended ∙ sym (ap (λ (y : Select). y .memory) (t .all)) in
@@ -148,10 +156,11 @@ module _ (wp : Bool) (s : Model) (input output m : List ℕ) where
         events = select-count wp input;
         bytes = two-each xs;
         accepted = k .accepted;
+        unflagged = k .flags ∙ clear-flags xs start clear;
         model = k .model ∙ model;
         memory = k .memory ∙ memory;
         buffer = ap (λ (y : Select). y .output) (t .all) ∙ sym (ap bytesOf backs);
         first = ap (λ (y : Select). y .first) (t .all) ∙ sym (ap firstDriven backs);
         count = ap (λ (y : Select). y .count) (t .all) ∙ sym (ap drivenCount backs);
-        run = λ quota l. rw (t .ready .sound) (loop-all xs quota start (t .ready) (below-select wp input) l ∙ rw (model, memory, ← k .answers));
+        run = λ quota l. rw (t .ready .sound) (loop-all xs quota start (t .ready) (below-select wp input) clear l ∙ rw (model, memory, ← k .answers));
       }

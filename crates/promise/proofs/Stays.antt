@@ -6,6 +6,7 @@ use mathlib.Core.Bool.{true, false, false≢true}
 use mathlib.Core.List.{List}
 use lib.Dec.{eqb}
 use lib.ListN.{length}
+use borrow.Author.Tests.{eqb-true}
 use Rattle.parts.specs.declared.part.Part.{Part}
 use Rattle.parts.specs.Table.{partOf}
 use Rattle.parts.proofs.NumberLaws.{refusal-counts}
@@ -23,6 +24,7 @@ use Rattle.chip.specs.Check.{checkOf}
 use Rattle.chip.proofs.CheckLaws.{sound-in}
 use Rattle.events.specs.Event.{advanceOn, advanceOf}
 use Rattle.runs.specs.Event.{onRead, eventOnVerdict, eventOf}
+use Rattle.runs.proofs.EventLaws.{accepted-sound}
 use Rattle.promise.specs.Promise.{cut}
 
 module _ (s : Model) (m : List ℕ) where
@@ -42,12 +44,7 @@ module _ (s : Model) (m : List ℕ) where
 
   -- and only if the memory has the part's size
   pub accepted-sized : (t : List ℕ) → eqb (eventOf s m t .result .number) 0 ≡ true → length m ≡ partOf (s .part) .size
-  unfolding eventOf
-  accepted-sized t = by (checkOf s (length m)) refl
-    where
-      by : (v : Verdict) → checkOf s (length m) ≡ v → eqb (eventOnVerdict v s m t .result .number) 0 ≡ true → length m ≡ partOf (s .part) .size
-      by Passed q h = sound-in s m q .sized
-      by (Failed r) q h = absurd (false≢true (sym (refusal-counts r) ∙ h))
+  accepted-sized t h = sound-in s m (accepted-sound s m t (eqb-true _ _ h)) .sized
 
   -- ---- a cut
 

@@ -5,8 +5,10 @@ pub mod Promise
 pub mod I2cAnswers
 pub mod SpiAnswers
 pub mod Answers
-pub mod RunEvents
 pub mod Fields
+pub mod FirstAt
+pub mod RunEvents
+pub mod Flags
 pub mod Reached
 pub mod Corollaries
 pub mod BitSteps

@@ -1,19 +1,21 @@
 -- A list of events on a state and a memory, one after the other, each by the definition of a single event. An event may be any
 -- bytes, also such as are no event, and one that is refused does not end the list.
 use Prim.Native.Nat.{ℕ}
+use mathlib.Core.Bool.{Bool}
 use mathlib.Core.List.{List, [], _∷_}
 use Rattle.chip.specs.declared.model.Model.{Model}
 use Rattle.events.specs.Event.{Outcome}
 use Rattle.runs.specs.Event.{eventOf}
 
--- what an event shows: its number, its answer, and the memory after it
+-- what an event shows: its number, its answer, its flag, and the memory after it
 pub record Observed : Type 0 where
   pub number : ℕ
   pub answer : ℕ
+  pub flag : Bool
   pub memory : List ℕ
 
 abbrev pub observed : Outcome → Observed
-observed o = record { number = o .result .number; answer = o .result .answer; memory = o .memory }
+observed o = record { number = o .result .number; answer = o .result .answer; flag = o .result .flag; memory = o .memory }
 
 -- what each event of a list shows, the first first
 abbrev pub observations : Model → List ℕ → List (List ℕ) → List Observed

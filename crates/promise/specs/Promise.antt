@@ -64,5 +64,5 @@ module _ (part pins bits : ℕ) (first : List ℕ) (es : List (List ℕ)) where
     pub makes : freshMade .number ≡ 0
     -- the model is exactly the one that it makes
     pub fresh : cutModel ≡ freshMade .model
-    -- the two models, each with its own copy of the memory, show the same numbers, answers and memories over every later list
+    -- the two models, each with its own copy of the memory, show the same numbers, answers, flags and memories over every later list
     pub later : (ks : List (List ℕ)) → observations cutModel cutMemory ks ≡ observations (freshMade .model) cutMemory ks

@@ -1,7 +1,7 @@
 -- A run by single events: the events that a trace splits into, each with the bytes that its kind fixes, and what a run says of them.
 use Prim.Native.Nat.{ℕ, zero, suc}
 use mathlib.Core.Path.{_≡_}
-use mathlib.Core.Bool.{cond}
+use mathlib.Core.Bool.{Bool, true, false, cond}
 use mathlib.Core.List.{List, [], _∷_, _++_}
 use lib.Dec.{eqb}
 use lib.ListN.{length, take, drop, getD, replicate}
@@ -11,6 +11,7 @@ use Rattle.runs.specs.Event.{eventOf}
 use Rattle.runs.specs.Run.{Run, runOf}
 use Rattle.promise.specs.Lists.{Observed, observations, modelAfter, memoryAfter}
 use Rattle.promise.specs.Promise.{madeBy, Promise}
+use Rattle.promise.specs.FirstAt.{FirstAt}
 
 -- at most q events of a trace; the last one may be cut short
 abbrev pub split : ℕ → List ℕ → List (List ℕ)
@@ -25,14 +26,24 @@ abbrev pub answersOf : List Observed → List ℕ
 answersOf [] = []
 answersOf (x ∷ xs) = x .answer ∷ answersOf xs
 
--- what the run r says of the events es on a state and a memory: it took its count of them
-pub record ByEvents (es : List (List ℕ)) (s : Model) (m : List ℕ) (r : Run) : Type 0 where
+abbrev pub flagsOf : List Observed → List Bool
+flagsOf [] = []
+flagsOf (x ∷ xs) = x .flag ∷ flagsOf xs
+
+-- event number i of a list is flagged, counted from 0
+abbrev pub FlaggedAt : List (List ℕ) → Model → List ℕ → ℕ → Type 0
+FlaggedAt es s m i = getD (flagsOf (observations s m es)) i false ≡ true
+
+-- what the run r of the trace t says of its events es on a state and a memory: it took its count of them
+pub record ByEvents (es : List (List ℕ)) (t : List ℕ) (s : Model) (m : List ℕ) (r : Run) : Type 0 where
   -- state and memory are those after them
   pub model : modelAfter s m (take (r .count) es) ≡ r .model
   pub memory : memoryAfter s m (take (r .count) es) ≡ r .memory
   -- each was accepted, with these answers
   pub accepted : numbersOf (observations s m (take (r .count) es)) ≡ replicate (r .count) 0
   pub answers : answersOf (observations s m (take (r .count) es)) ≡ r .answers
+  -- it points at the first of them that is flagged
+  pub flag : FirstAt (FlaggedAt es s m) t r
   -- it stopped at an event that is refused with its number, or it took them all
   pub refused : (r .number ≡ 0 → ⊥) → eventOf (r .model) (r .memory) (getD es (r .count) []) .result .number ≡ r .number
   pub whole : r .number ≡ 0 → r .count ≡ length es

@@ -1,5 +1,6 @@
--- What is promised of the answers where selections as bytes stand among the events: each accepted event answers what the history up to
--- and including it says, and each accepted selection brings back the bytes that the history says of its pin events.
+-- What is promised of the answers and flags where selections as bytes stand among the events: each accepted event answers what the history
+-- up to and including it says and is flagged where it says so, and each accepted selection brings back the bytes that the history says of
+-- its pin events.
 use Prim.Native.Nat.{ℕ}
 use mathlib.Core.Path.{_≡_}
 use mathlib.Core.Bool.{Bool}
@@ -8,7 +9,9 @@ use lib.ListN.{length}
 use Rattle.chip.specs.declared.model.Model.{Model}
 use Rattle.byte_path.specs.PinPath.{Back, bytesOf, firstDriven, drivenCount}
 use Rattle.promise.specs.Promise.{madeBy, historyOf}
+use Rattle.ledger.specs.Flags.{Exactly}
 use Rattle.promise.specs.Answers.{ledgerAnswer}
+use Rattle.promise.specs.Flags.{Warned}
 use Rattle.promise.specs.Selects.{pinEvents, backsIn}
 use Rattle.promise.specs.SelectSteps.{Step, Shown, event, select, stepped, modelSteps, memorySteps, eventsSteps}
 
@@ -38,6 +41,9 @@ module _ (part pins bits : ℕ) (first : List ℕ) (xs : List Step) where
   pub record StepsAnswers : Type 0 where
     -- an event of any bytes, if it is accepted (number 0)
     pub by-event : (t : List ℕ) → next (event t) .number ≡ 0 → next (event t) .back ≡ ledgerAnswer start first (historyOf start first (es ++ (t ∷ []))) ∷ []
+    -- and is flagged exactly where the wires say so
+    pub flagged : (t : List ℕ) → next (event t) .number ≡ 0
+        → Exactly (next (event t) .flag) (Warned start (historyOf start first (es ++ (t ∷ []))))
     -- a selection, if it is accepted: the buffer, and both figures
     pub by-select : (wp : Bool) (input output : List ℕ) → next (select wp input output) .number ≡ 0
         → next (select wp input output) .back ≡ bytesOf (saidBack wp input)

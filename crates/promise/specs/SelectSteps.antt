@@ -2,7 +2,7 @@
 -- does not end the list.
 use Prim.Native.Nat.{ℕ}
 use mathlib.Core.Path.{_≡_}
-use mathlib.Core.Bool.{Bool, cond}
+use mathlib.Core.Bool.{Bool, false, cond}
 use mathlib.Core.List.{List, [], _∷_, _++_}
 use lib.Dec.{eqb}
 use Rattle.chip.specs.declared.model.Model.{Model}
@@ -18,10 +18,11 @@ pub data Step : Type 0 where
   event : List ℕ → Step
   select : Bool → List ℕ → List ℕ → Step
 
--- what a host sees of a step: number, the event's answer or the buffer, of a selection both figures, and the memory
+-- what a host sees of a step: number, the event's answer or the buffer, of an event its flag, of a selection both figures, and the memory
 pub record Shown : Type 0 where
   pub number : ℕ
   pub back : List ℕ
+  pub flag : Bool
   pub first : ℕ
   pub count : ℕ
   pub memory : List ℕ
@@ -35,14 +36,14 @@ abbrev pub byEvent : Outcome → Stepped
 byEvent o =
     record {
       model = o .result .model;
-      shown = record { number = o .result .number; back = o .result .answer ∷ []; first = 0; count = 0; memory = o .memory };
+      shown = record { number = o .result .number; back = o .result .answer ∷ []; flag = o .result .flag; first = 0; count = 0; memory = o .memory };
     }
 
 abbrev pub bySelect : Select → Stepped
 bySelect r =
     record {
       model = r .model;
-      shown = record { number = r .number; back = r .output; first = r .first; count = r .count; memory = r .memory };
+      shown = record { number = r .number; back = r .output; flag = false; first = r .first; count = r .count; memory = r .memory };
     }
 
 -- one step, by its own definition

@@ -10,7 +10,7 @@ use Rattle.byte_path.specs.PinPath.{sampleOf, bitsOf, Back, backOf, lastSi, byt
 use Rattle.byte_path.specs.Select.{Select, selectOf}
 use Rattle.runs.specs.Run.{Run, runOf}
 use Rattle.promise.specs.Lists.{observations, modelAfter, memoryAfter}
-use Rattle.promise.specs.RunEvents.{numbersOf, answersOf}
+use Rattle.promise.specs.RunEvents.{numbersOf, answersOf, flagsOf}
 
 -- ---- the events
 
@@ -75,7 +75,7 @@ module _ (wp : Bool) (s : Model) (input output m : List ℕ) where
   abbrev backs : List Back
   backs = backsIn (length input) (pinAnswers wp s m input)
 
-  -- the run of all the events
+  -- the run of all the events; none is flagged
   abbrev pub pinRun : Run
   pinRun =
       record {
@@ -83,6 +83,7 @@ module _ (wp : Bool) (s : Model) (input output m : List ℕ) where
         model = taken .model;
         count = length (pinEvents wp input);
         offset = length (pinTrace wp input);
+        flag = length (pinTrace wp input);
         memory = taken .memory;
         answers = pinAnswers wp s m input;
       }
@@ -93,6 +94,8 @@ module _ (wp : Bool) (s : Model) (input output m : List ℕ) where
     pub bytes : length (pinTrace wp input) ≡ 2 * length (pinEvents wp input)
     -- each is accepted, one after the other
     pub accepted : numbersOf (observations s m (pinEvents wp input)) ≡ replicate (length (pinEvents wp input)) 0
+    -- none is flagged: WP# is still from the fall of CS# to its rise
+    pub unflagged : flagsOf (observations s m (pinEvents wp input)) ≡ replicate (length (pinEvents wp input)) false
     -- state and memory are those after them
     pub model : modelAfter s m (pinEvents wp input) ≡ taken .model
     pub memory : memoryAfter s m (pinEvents wp input) ≡ taken .memory

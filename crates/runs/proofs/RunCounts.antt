@@ -1,6 +1,7 @@
 -- The count of a run is the number of its answers, and no more than the trace has bytes. Assumes nothing.
 use Prim.Native.Nat.{ℕ, zero, suc, _+_, _-_, _≤_}
 use mathlib.Core.Path.{_≡_, refl}
+use mathlib.Core.Bool.{Bool}
 use mathlib.Core.List.{List}
 use native.Mathlib.Omega.{arith}
 use lib.ListN.{length, drop, getD, length-drop}
@@ -9,12 +10,13 @@ use Rattle.chip.specs.declared.check.Verdict.{Verdict}
 use Rattle.chip.specs.declared.check.Verdict.the-variants.{Passed, Failed}
 use Rattle.chip.specs.declared.model.Model.{Model}
 use Rattle.chip.specs.Check.{checkOf}
+use Rattle.runs.specs.Event.{eventOf}
 use Rattle.runs.specs.Run.{Run, after, runOnVerdict, loopOf, runOf}
 use Rattle.runs.specs.Rules.{Counted}
 use Rattle.runs.proofs.RunLaws.{taken, loop-induction}
 
-one-more : (t : List ℕ) (r : Run) (a n : ℕ) → 1 ≤ n → (length t ≡ 0 → ⊥) → Counted (length (drop n t)) r → Counted (length t) (after a n r)
-one-more t r a n l some k =
+one-more : (t : List ℕ) (r : Run) (a : ℕ) (f : Bool) (n : ℕ) → 1 ≤ n → (length t ≡ 0 → ⊥) → Counted (length (drop n t)) r → Counted (length t) (after a f n r)
+one-more t r a f n l some k =
     let e = k .answered in
     record { answered = omega arith; within = by (length t) some (rw length-drop at (k .within)) }
   where
@@ -26,7 +28,7 @@ loop-counted : (q : ℕ) (t : List ℕ) (s : Model) (m : List ℕ) → Counted (
 loop-counted =
     loop-induction (λ q t s m r. Counted (length t) r)
     (λ q n place t s m e. record { answered = refl; within = omega arith })
-    (λ q t s m some none r k. one-more t r _ (taken t) (length-positive (getD t 0 0)) some k)
+    (λ q t s m some none r k. one-more t r _ (eventOf s m t .result .flag) (taken t) (length-positive (getD t 0 0)) some k)
 
 pub run-counted : (q : ℕ) (t : List ℕ) (s : Model) (m : List ℕ) → Counted (length t) (runOf q t s m)
 unfolding runOf

@@ -24,8 +24,10 @@ use Rattle.events.specs.declared.event.Answered.{Answered}
 use Rattle.chip.specs.declared.model.Model.{Model}
 use Rattle.events.specs.Event.{Outcome, advanceOf}
 use Rattle.chip.specs.Check.{Sound}
+use Rattle.events.specs.Flag.{firstFlag, flagAt}
+use Rattle.events.proofs.FlagLaws.{first-none, first-later, first-step}
 use Rattle.events.proofs.Stays.{stays}
-use Rattle.samples.proofs.SamplesLaws.{tail-part}
+use Rattle.samples.proofs.SamplesLaws.{tail-part, none-left}
 use Rattle.runs.specs.declared.run.Ran.{Ran}
 use Rattle.runs.specs.Event.{eventOf}
 use Rattle.runs.specs.Run.{Run, ran, ranOf, stop, stopAt, after, loopOf}
@@ -41,21 +43,21 @@ fault s t = placeOf (readOf (partOf (s .part)) t)
 
 module _ (t : List ℕ) (s : Model) (m : List ℕ) where
   -- at the end of the trace
-  pub loop-over : (q : ℕ) → length t ≡ 0 → loopOf q t s m ≡ stop 0 s m
+  pub loop-over : (q : ℕ) → length t ≡ 0 → loopOf q t s m ≡ stop 0 t s m
   unfolding loopOf
   loop-over zero h = refl
   loop-over (suc q) h = rw (eq-eqb _ _ h)
 
   -- at a refused event
   pub loop-refused : (q : ℕ) → (length t ≡ 0 → ⊥) → (eventOf s m t .result .number ≡ 0 → ⊥)
-      → loopOf (suc q) t s m ≡ stopAt (eventOf s m t .result .number) (fault s t) s m
+      → loopOf (suc q) t s m ≡ stopAt (eventOf s m t .result .number) (fault s t) t s m
   unfolding loopOf
   loop-refused q h n = rw (ne-eqb _ _ h, ne-eqb _ _ n)
 
   -- at an accepted one
   pub loop-accepted : (q : ℕ) → (length t ≡ 0 → ⊥) → eventOf s m t .result .number ≡ 0
       → loopOf (suc q) t s m
-      ≡ after (eventOf s m t .result .answer) (taken t) (loopOf q (drop (taken t) t) (eventOf s m t .result .model) (eventOf s m t .memory))
+      ≡ after (eventOf s m t .result .answer) (eventOf s m t .result .flag) (taken t) (loopOf q (drop (taken t) t) (eventOf s m t .result .model) (eventOf s m t .memory))
   unfolding loopOf
   loop-accepted q h n = rw (ne-eqb _ _ h, eq-eqb _ _ n)
 
@@ -69,10 +71,10 @@ pub data Stops (t : List ℕ) (s : Model) (m : List ℕ) : ℕ → ℕ → ℕ �
 
 -- what holds of a run that stops, and of a run with one accepted event more if it holds of the rest
 module _ (P : ℕ → List ℕ → Model → List ℕ → Run → Type 0)
-    (stops : (q n place : ℕ) (t : List ℕ) (s : Model) (m : List ℕ) → Stops t s m q n place → P q t s m (stopAt n place s m))
+    (stops : (q n place : ℕ) (t : List ℕ) (s : Model) (m : List ℕ) → Stops t s m q n place → P q t s m (stopAt n place t s m))
     (goes-on : (q : ℕ) (t : List ℕ) (s : Model) (m : List ℕ) → (length t ≡ 0 → ⊥) → eventOf s m t .result .number ≡ 0 → (r : Run)
     → P q (drop (taken t) t) (eventOf s m t .result .model) (eventOf s m t .memory) r
-    → P (suc q) t s m (after (eventOf s m t .result .answer) (taken t) r)) where
+    → P (suc q) t s m (after (eventOf s m t .result .answer) (eventOf s m t .result .flag) (taken t) r)) where
   pub loop-induction : (q : ℕ) (t : List ℕ) (s : Model) (m : List ℕ) → P q t s m (loopOf q t s m)
   unfolding loopOf
   loop-induction zero t s m = stops 0 0 0 t s m at-quota
@@ -111,29 +113,30 @@ pub record Final : Type 0 where
 abbrev pub finalOf : Ran → List ℕ → List ℕ → Final
 finalOf r m buf = record { ended = r; memory = m; answers = buf }
 
--- the run r after c events and o bytes, with the answers so far in buf
-abbrev pub final : ℕ → ℕ → List ℕ → Run → Final
-final c o buf r = finalOf (ran (r .number) (r .model) (c + r .count) (o + r .offset)) (r .memory) (sets buf c (r .answers))
+-- the run r after c events and o bytes of a trace of n bytes, with the first flag so far at f and the answers so far in buf
+abbrev pub final : ℕ → ℕ → ℕ → ℕ → List ℕ → Run → Final
+final n f c o buf r =
+    finalOf (ran (r .number) (r .model) (c + r .count) (o + r .offset) (firstFlag n f (o + r .flag))) (r .memory) (sets buf c (r .answers))
 
-pub final-start : (buf : List ℕ) (r : Run) → final 0 0 buf r ≡ finalOf (ranOf r) (r .memory) (sets buf 0 (r .answers))
-final-start buf r = rw (zero-add (r .count), zero-add (r .offset))
+pub final-start : (n : ℕ) (buf : List ℕ) (r : Run) → final n n 0 0 buf r ≡ finalOf (ranOf r) (r .memory) (sets buf 0 (r .answers))
+final-start n buf r = rw (zero-add (r .count), zero-add (r .offset), zero-add (r .flag), first-later n (r .flag))
 
 -- what is left of q events at offset o of t
-module _ (t : List ℕ) (q c o : ℕ) (s : Model) (m buf : List ℕ) where
+module _ (t : List ℕ) (q f c o : ℕ) (s : Model) (m buf : List ℕ) (within : o ≤ length t) where
   abbrev pub left : Run
   left = loopOf (q - c) (drop o t) s m
 
-  stopped : (n place : ℕ) → left ≡ stopAt n place s m → final c o buf left ≡ finalOf (ran n s c (o + place)) m buf
-  stopped n place e = rw (e, add-zero c)
+  stopped : (n place : ℕ) → left ≡ stopAt n place (drop o t) s m → final (length t) f c o buf left ≡ finalOf (ran n s c (o + place) f) m buf
+  stopped n place e = rw (e, add-zero c, none-left t o within, first-none (length t) f)
 
-  stopped-here : (n : ℕ) → left ≡ stop n s m → final c o buf left ≡ finalOf (ran n s c o) m buf
+  stopped-here : (n : ℕ) → left ≡ stop n (drop o t) s m → final (length t) f c o buf left ≡ finalOf (ran n s c o f) m buf
   stopped-here n e = rw (add-zero o) at (stopped n 0 e)
 
-  pub left-used : q ≤ c → final c o buf left ≡ finalOf (ran 0 s c o) m buf
+  pub left-used : q ≤ c → final (length t) f c o buf left ≡ finalOf (ran 0 s c o f) m buf
   unfolding loopOf
   left-used h = let e : q - c ≡ 0 = omega arith in stopped-here 0 (rw e)
 
-  pub left-over : length t ≤ o → final c o buf left ≡ finalOf (ran 0 s c o) m buf
+  pub left-over : length t ≤ o → final (length t) f c o buf left ≡ finalOf (ran 0 s c o f) m buf
   left-over h = stopped-here 0 (loop-over (drop o t) s m (q - c) (rw length-drop (omega arith)))
 
   module _ (more : c < q) (inside : o < length t) where
@@ -144,42 +147,43 @@ module _ (t : List ℕ) (q c o : ℕ) (s : Model) (m buf : List ℕ) where
     one-more = omega arith
 
     pub left-refused : (eventOf s m (drop o t) .result .number ≡ 0 → ⊥)
-        → final c o buf left ≡ finalOf (ran (eventOf s m (drop o t) .result .number) s c (o + fault s (drop o t))) m buf
+        → final (length t) f c o buf left ≡ finalOf (ran (eventOf s m (drop o t) .result .number) s c (o + fault s (drop o t)) f) m buf
     left-refused n = stopped _ _ (rw one-more (loop-refused (drop o t) s m (q - (c + 1)) some n))
 
     pub left-accepted : eventOf s m (drop o t) .result .number ≡ 0
-        → final c o buf left
-        ≡ final (c + 1) (o + taken (drop o t)) (set buf c (eventOf s m (drop o t) .result .answer))
+        → final (length t) f c o buf left
+        ≡ final (length t) (flagAt (length t) f o (eventOf s m (drop o t) .result .flag)) (c + 1) (o + taken (drop o t)) (set buf c (eventOf s m (drop o t) .result .answer))
         (loopOf (q - (c + 1)) (drop (o + taken (drop o t)) t) (eventOf s m (drop o t) .result .model) (eventOf s m (drop o t) .memory))
     left-accepted n =
-        rw (one-more, loop-accepted (drop o t) s m (q - (c + 1)) some n, drop-drop, ← add-assoc, ← add-assoc, add-one c)
+        rw (one-more, loop-accepted (drop o t) s m (q - (c + 1)) some n, drop-drop, first-step (length t) f o (taken (drop o t)) _ _ inside, ← add-assoc, ← add-assoc, add-one c)
 
 -- ---- the same by what the reader finds, on a state and a memory that passed
 
-module _ (t : List ℕ) (q c o : ℕ) (s : Model) (m buf : List ℕ) (sound : Sound s m) (more : c < q) (inside : o < length t) where
+module _ (t : List ℕ) (q f c o : ℕ) (s : Model) (m buf : List ℕ) (within : o ≤ length t) (sound : Sound s m) (more : c < q) (inside : o < length t) where
   pub left-unread : (r : Refusal) (place : ℕ) → readOf (partOf (s .part)) (drop o t) ≡ Refused r place
-      → final c o buf (left t q c o s m buf) ≡ finalOf (ran (refusalNumber r) s c (o + place)) m buf
+      → final (length t) f c o buf (left t q f c o s m buf within) ≡ finalOf (ran (refusalNumber r) s c (o + place) f) m buf
   left-unread r place h =
       let e = event-refused s m (drop o t) sound r place h in
       let k : eventOf s m (drop o t) .result .number ≡ refusalNumber r = ap (λ (x : Outcome). x .result .number) e in
-      left-refused t q c o s m buf more inside (λ z. number-positive r (sym k ∙ z))
-      ∙ rw h (ap (λ (n : ℕ). finalOf (ran n s c (o + place)) m buf) k)
+      left-refused t q f c o s m buf within more inside (λ z. number-positive r (sym k ∙ z))
+      ∙ rw h (ap (λ (n : ℕ). finalOf (ran n s c (o + place) f) m buf) k)
 
   -- a whole event, with what carrying it out gave: a result r and a memory w
   module _ (e : Event) (n : ℕ) (h : readOf (partOf (s .part)) (drop o t) ≡ Whole e n)
       (r : Answered) (w : List ℕ) (result : r ≡ advanceOf s m e .result) (memory : w ≡ advanceOf s m e .memory) where
-    pub left-unmoved : (r .number ≡ 0 → ⊥) → final c o buf (left t q c o s m buf) ≡ finalOf (ran (r .number) s c o) w buf
+    pub left-unmoved : (r .number ≡ 0 → ⊥) → final (length t) f c o buf (left t q f c o s m buf within) ≡ finalOf (ran (r .number) s c o f) w buf
     left-unmoved z =
-        let f = rw (event-whole s m (drop o t) sound e n h, h, ← result, add-zero o) at (left-refused t q c o s m buf more inside) in
+        let x = rw (event-whole s m (drop o t) sound e n h, h, ← result, add-zero o) at (left-refused t q f c o s m buf within more inside) in
         let k = rw (← result) at (stays s m e .refused-memory) in
-        rw (memory, k z) (f z)
+        rw (memory, k z) (x z)
 
     pub left-moved : r .number ≡ 0
-        → final c o buf (left t q c o s m buf) ≡ final (c + 1) (o + n) (set buf c (r .answer)) (loopOf (q - (c + 1)) (drop (o + n) t) (r .model) w)
+        → final (length t) f c o buf (left t q f c o s m buf within)
+        ≡ final (length t) (flagAt (length t) f o (r .flag)) (c + 1) (o + n) (set buf c (r .answer)) (loopOf (q - (c + 1)) (drop (o + n) t) (r .model) w)
     left-moved z =
-        let f = rw (event-whole s m (drop o t) sound e n h, event-taken s m (drop o t) sound e n h, ← result, ← memory) at
-        (left-accepted t q c o s m buf more inside) in
-        f z
+        let x = rw (event-whole s m (drop o t) sound e n h, event-taken s m (drop o t) sound e n h, ← result, ← memory) at
+        (left-accepted t q f c o s m buf within more inside) in
+        x z
 
     pub moved-sound : Sound (r .model) w
     moved-sound = rw (result, memory) (event-keeps s m (drop o t) sound e n h)

@@ -17,25 +17,29 @@ use Rattle.trace.specs.Sample.{firstEvent}
 use Rattle.trace.proofs.ReadLaws.{taken-within}
 use Rattle.chip.specs.declared.model.Model.{Model}
 use Rattle.chip.specs.Check.{Sound}
+use Rattle.events.specs.Flag.{firstFlag}
+use Rattle.events.proofs.FlagLaws.{first-later, first-behind, first-joined}
 use Rattle.events.proofs.Stays.{stays}
 use Rattle.samples.specs.declared.progress.Progress.{Progress}
 use Rattle.steps.specs.Other.{ReadOtherThanSample}
 use Rattle.samples.specs.Samples.{Samples, none, one, staysOn, firstDone, samplesOf, progressBy}
 use Rattle.samples.proofs.NextLaws.{next-read, next-other, next-accepted}
-use Rattle.samples.proofs.SamplesLaws.{samples-zero, samples-none, samples-one}
+use Rattle.samples.proofs.SamplesLaws.{none-left, samples-zero, samples-none, samples-one}
 use Rattle.runs.specs.Run.{Run, after, loopOf}
 use Rattle.runs.proofs.EventLaws.{event-whole, event-taken, event-keeps}
 use Rattle.runs.proofs.RunLaws.{Final, final, loop-accepted}
 use Rattle.runs.proofs.SetsLaws.{sets-append}
 
--- consecutive samples and expected answers, then a run: counts and offsets added, answers put together
-abbrev pub before : Samples → Run → Run
-before r u =
+-- consecutive samples and expected answers of a trace of n bytes, then a run: counts and offsets added, answers put together, the first
+-- flag
+abbrev pub before : ℕ → Samples → Run → Run
+before n r u =
     record {
       number = u .number;
       model = u .model;
       count = r .count + u .count;
       offset = r .offset + u .offset;
+      flag = firstFlag n (r .flag) (r .offset + u .flag);
       memory = u .memory;
       answers = r .answers ++ u .answers;
     }
@@ -46,7 +50,7 @@ rest q t r = loopOf (q - r .count) (drop (r .offset) t) (r .model) (r .memory)
 
 -- all that is to be known of the samples r at the front of a run
 pub record Front (q : ℕ) (t : List ℕ) (s : Model) (m : List ℕ) (r : Samples) : Type 0 where
-  pub run : loopOf q t s m ≡ before r (rest q t r)
+  pub run : loopOf q t s m ≡ before (length t) r (rest q t r)
   pub sound : Sound (r .model) (r .memory)
   pub part : r .model .part ≡ s .part
   pub quota : r .count ≤ q
@@ -54,10 +58,10 @@ pub record Front (q : ℕ) (t : List ℕ) (s : Model) (m : List ℕ) (r : Sample
   pub counted : length (r .answers) ≡ r .count
   pub over : r .count < q → staysOn (r .model .bus) (drop (r .offset) t) ≡ false
 
-front-none : (q : ℕ) (t : List ℕ) (s : Model) (m : List ℕ) → Sound s m → (0 < q → staysOn (s .bus) t ≡ false) → Front q t s m (none s m)
+front-none : (q : ℕ) (t : List ℕ) (s : Model) (m : List ℕ) → Sound s m → (0 < q → staysOn (s .bus) t ≡ false) → Front q t s m (none t s m)
 front-none q t s m h n =
     record {
-      run = rw (sub-zero q, zero-add (loopOf q t s m .count), zero-add (loopOf q t s m .offset));
+      run = rw (sub-zero q, zero-add (loopOf q t s m .count), zero-add (loopOf q t s m .offset), zero-add (loopOf q t s m .flag), first-later (length t) (loopOf q t s m .flag));
       sound = h;
       part = refl;
       quota = omega arith;
@@ -66,11 +70,12 @@ front-none q t s m h n =
       over = n;
     }
 
-before-one : (a : ℕ) (r : Samples) (u : Run) → after a 2 (before r u) ≡ before (one a r) u
-before-one a r u = rw (add-assoc 1 (r .count) (u .count), add-assoc 2 (r .offset) (u .offset))
+before-one : (n k : ℕ) → n ≡ 2 + k → (a : ℕ) (f : Bool) (r : Samples) (u : Run) → after a f 2 (before k r u) ≡ before n (one a f r) u
+before-one n k e a f r u =
+    rw (add-assoc 1 (r .count) (u .count), add-assoc 2 (r .offset) (u .offset), add-assoc 2 (r .offset) (u .flag), first-behind n k 2 e (r .flag) (r .offset + u .flag) f (omega arith))
 
 module _ (q : ℕ) (t : List ℕ) (s : Model) (m : List ℕ) (sound : Sound s m) (next : staysOn (s .bus) t ≡ true) where
-  step : loopOf (suc q) t s m ≡ after (firstDone s m t .result .answer) 2 (loopOf q (drop 2 t) (firstDone s m t .result .model) (firstDone s m t .memory))
+  step : loopOf (suc q) t s m ≡ after (firstDone s m t .result .answer) (firstDone s m t .result .flag) 2 (loopOf q (drop 2 t) (firstDone s m t .result .model) (firstDone s m t .memory))
   step =
       let h = next-read s m sound t next in
       let w = event-whole s m t sound (firstEvent t) 2 h in
@@ -81,11 +86,11 @@ module _ (q : ℕ) (t : List ℕ) (s : Model) (m : List ℕ) (sound : Sound s m)
   pub first-sound : Sound (firstDone s m t .result .model) (firstDone s m t .memory)
   first-sound = event-keeps s m t sound (firstEvent t) 2 (next-read s m sound t next)
 
-  front-one : (r : Samples) → Front q (drop 2 t) (firstDone s m t .result .model) (firstDone s m t .memory) r → Front (suc q) t s m (one (firstDone s m t .result .answer) r)
+  front-one : (r : Samples) → Front q (drop 2 t) (firstDone s m t .result .model) (firstDone s m t .memory) r → Front (suc q) t s m (one (firstDone s m t .result .answer) (firstDone s m t .result .flag) r)
   front-one r f =
       let l = taken-within _ t _ 2 (next-read s m sound t next) in
       record {
-        run = step ∙ rw (f .run, drop-drop, sub-suc) (before-one (firstDone s m t .result .answer) r _);
+        run = step ∙ rw (f .run, drop-drop, sub-suc) (before-one (length t) (length (drop 2 t)) (rw length-drop (omega arith)) (firstDone s m t .result .answer) (firstDone s m t .result .flag) r _);
         sound = f .sound;
         part = f .part ∙ stays s m (firstEvent t) .part-stays;
         quota = omega (arith, f .quota);
@@ -117,32 +122,32 @@ pub record Here (p : Part) (t : List ℕ) (q : ℕ) (goal : Final) (c : ℕ) (r 
   pub quota : r .count ≤ q
   pub within : r .offset ≤ length t
   pub over : r .count < q → staysOn (r .model .bus) (drop (r .offset) t) ≡ false
-  pub left : final (r .count) (r .offset) buf (loopOf (q - r .count) (drop (r .offset) t) (r .model) m) ≡ goal
+  pub left : final (length t) (r .flag) (r .count) (r .offset) buf (loopOf (q - r .count) (drop (r .offset) t) (r .model) m) ≡ goal
 
-module _ (p : Part) (t : List ℕ) (q c o : ℕ) (s : Model) (m buf : List ℕ) (goal : Final) (sound : Sound s m) (part : p ≡ partOf (s .part))
-    (more : c < q) (inside : o ≤ length t) (left : final c o buf (loopOf (q - c) (drop o t) s m) ≡ goal) where
+module _ (p : Part) (t : List ℕ) (q f c o : ℕ) (s : Model) (m buf : List ℕ) (goal : Final) (sound : Sound s m) (part : p ≡ partOf (s .part))
+    (more : c < q) (inside : o ≤ length t) (left : final (length t) f c o buf (loopOf (q - c) (drop o t) s m) ≡ goal) where
   abbrev taken-samples : Samples
   taken-samples = samplesOf (q - c) (drop o t) s m
 
-  onward-left : final (c + taken-samples .count) (o + taken-samples .offset) (sets buf c (taken-samples .answers))
+  onward-left : final (length t) (firstFlag (length t) f (o + taken-samples .flag)) (c + taken-samples .count) (o + taken-samples .offset) (sets buf c (taken-samples .answers))
       (loopOf (q - (c + taken-samples .count)) (drop (o + taken-samples .offset) t) (taken-samples .model) (taken-samples .memory)) ≡ goal
   onward-left =
-      let f = front (q - c) (drop o t) s m sound in
+      let h = front (q - c) (drop o t) s m sound in
       let e : (q - c) - taken-samples .count ≡ q - (c + taken-samples .count) = omega arith in
-      rw (f .run, drop-drop, e, sets-append, f .counted, ← add-assoc, ← add-assoc) at left
+      rw (h .run, drop-drop, e, sets-append, h .counted, first-joined (length t) (length (drop o t)) o (sym (none-left t o inside)), ← add-assoc, ← add-assoc, ← add-assoc) at left
 
-  pub samples-here : (r : Progress) (w b : List ℕ) → r ≡ progressBy c o taken-samples → w ≡ taken-samples .memory → b ≡ sets buf c (taken-samples .answers)
+  pub samples-here : (r : Progress) (w b : List ℕ) → r ≡ progressBy (length t) f c o taken-samples → w ≡ taken-samples .memory → b ≡ sets buf c (taken-samples .answers)
       → Here p t q goal c r w b
   samples-here r w b x y z =
-      let f = front (q - c) (drop o t) s m sound in
+      let h = front (q - c) (drop o t) s m sound in
       rw (x, y, z)
       (record {
-        sound = f .sound;
-        part = part ∙ ap partOf (sym (f .part));
+        sound = h .sound;
+        part = part ∙ ap partOf (sym (h .part));
         onward = omega arith;
-        quota = omega (arith, f .quota);
-        within = omega (arith, f .within, length-drop o t);
-        over = λ k. rw drop-drop at (f .over (omega arith));
+        quota = omega (arith, h .quota);
+        within = omega (arith, h .within, length-drop o t);
+        over = λ k. rw drop-drop at (h .over (omega arith));
         left = onward-left;
       })
 

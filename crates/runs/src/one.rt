@@ -6,8 +6,8 @@ use chip::model::Model;
 use events::event::Answered;
 use parts::refusal::Refusal;
 
-// Refused with 4 to 11, or taken: a run of one event, which leaves the answer at 2 if it is refused; its offset is not used. Without bytes
-// a run is empty, and an event is cut short.
+// Refused with 4 to 11, or taken: a run of one event, which leaves the answer at 2 if it is refused; its offset is not used, and the first
+// flag is at 0 if the event is flagged. Without bytes a run is empty, and an event is cut short.
 pub fn checked_event(model: Model, bytes: &[u8], memory: &mut [u8]) -> Answered
     requires { ⌜ Sound model (now memory) ⌝ }
     ensures answered { λ r. ⌜ r ≡ checkedEvent model (now (memory .entry)) (now (bytes .entry)) .result ⌝ }
@@ -22,6 +22,7 @@ pub fn checked_event(model: Model, bytes: &[u8], memory: &mut [u8]) -> Answered
     Answered {
         number: ran.number,
         answer: answers[0],
+        flag: ran.flag == 0,
         model: next,
     }
 }

@@ -5,23 +5,25 @@ ghost use Rattle.chip.specs.Check.{Sound};
 ghost use Rattle.runs.specs.Run.{ran, ranOf, loopOf};
 use chip::model::Model;
 
-// Number or 0, state, how many events are accepted, and the offset: that of the first byte of the bad field with 6, 10 and 11, else how
-// many bytes these events take.
+// Number or 0, state, how many events are accepted, and two offsets. The first is that of the first byte of the bad field with 6, 10 and
+// 11, else how many bytes these events take; the second is that of the first of them that is flagged, or the length of the trace.
 pub struct Ran {
     pub number: u8,
     pub model: Model,
     pub count: usize,
     pub offset: usize,
+    pub flag: usize,
 }
 
-pub fn ended(number: u8, model: Model, count: usize, offset: usize) -> Ran
-    ensures { λ r. ⌜ r ≡ ran number model count offset ⌝ }
+pub fn ended(number: u8, model: Model, count: usize, offset: usize, flag: usize) -> Ran
+    ensures { λ r. ⌜ r ≡ ran number model count offset flag ⌝ }
 {
     Ran {
         number,
         model,
         count,
         offset,
+        flag,
     }
 }
 
@@ -42,6 +44,7 @@ pub fn replay_checked(
     let mut state = model;
     let mut at: usize = 0;
     let mut count: usize = 0;
+    let mut flag = trace.len();
     while count < quota {
         let progress = steps::consecutive::samples(
             part,
@@ -50,23 +53,25 @@ pub fn replay_checked(
             quota,
             count,
             at,
+            flag,
             &mut *memory,
             &mut *answers,
         );
         let here = progress.model;
         let done = progress.count;
         let offset = progress.offset;
+        flag = progress.flag;
         if quota <= done || trace.len() <= offset {
-            return ended(0, here, done, offset);
+            return ended(0, here, done, offset, flag);
         }
         let other = steps::other::one_other(part, here, trace, done, offset, &mut *answers);
         let next = other.model;
         if other.number != 0 {
-            return ended(other.number, next, done, other.offset);
+            return ended(other.number, next, done, other.offset, flag);
         }
         state = next;
         at = other.offset;
         count = done + 1;
     }
-    ended(0, state, count, at)
+    ended(0, state, count, at, flag)
 }

@@ -8,16 +8,18 @@ use mathlib.Core.List.{List}
 use mathlib.Core.Logic.{⊎-elim}
 use native.Mathlib.Omega.{arith}
 use lib.Dec.{eqb}
-use lib.ListN.{drop, set, getD}
+use lib.ListN.{length, drop, set, getD}
 use borrow.Author.Tests.{eq-eqb}
 use Rattle.parts.specs.declared.status.Status.{Status}
 use Rattle.parts.specs.Table.{partOf}
+use Rattle.serial.proofs.LevelLaws.{same-level}
 use Rattle.trace.specs.declared.event.Event.{Event}
 use Rattle.trace.specs.declared.event.Event.the-variants.{Sample, Expected}
 use Rattle.trace.specs.Sample.{staysFirst, firstEvent}
 use Rattle.selection.specs.declared.edge.Edge.the-variants as SpiEdges
 use Rattle.selection.specs.declared.levels.Levels as SpiLevel
 use Rattle.selection.specs.Edge as SpiEdge
+use Rattle.selection.specs.Flag as SpiFlag
 use Rattle.selection.specs.Levels as SpiLevels
 use Rattle.spi.specs.declared.sample.Spi.{Spi}
 use Rattle.spi.specs.Show as SpiShow
@@ -25,6 +27,7 @@ use Rattle.spi.specs.Sample as SpiSample
 use Rattle.transfer.specs.declared.edge.Edge.the-variants as I2cEdges
 use Rattle.transfer.specs.declared.levels.Levels as I2cLevel
 use Rattle.transfer.specs.Edge as I2cEdge
+use Rattle.transfer.specs.Flag as I2cFlag
 use Rattle.transfer.specs.Levels as I2cLevels
 use Rattle.i2c.specs.declared.sample.I2c.{I2c}
 use Rattle.i2c.specs.Sample as I2cSample
@@ -33,6 +36,7 @@ use Rattle.chip.specs.declared.model.BusState.the-variants.{Unpowered, SpiOn, I
 use Rattle.chip.specs.declared.model.Model.{Model}
 use Rattle.chip.specs.Model.{modelOf}
 use Rattle.events.specs.Event.{Outcome, keeping, expected, spiSampled, i2cSampled, advanceOn, advanceOf}
+use Rattle.events.specs.Flag.{flagAt}
 use Rattle.samples.specs.Samples.{staysOn, firstDone, firstSample, nextIs}
 use Rattle.samples.proofs.NextLaws.{present, next-which}
 use Rattle.samples.proofs.SamplesLaws.{End, first, Going, goes-on}
@@ -68,15 +72,15 @@ LastOn (I2cOn b) x = b .last ≡ I2cLevels.levelsOf x
 module _ (part pins : ℕ) (st : Status) (m : List ℕ) where
   spi-held : (b : Spi) (l : SpiLevel.Levels) → b .last ≡ l
       → keeping m (expected (modelOf part pins st (SpiOn b)) (SpiShow.answerAt (b .last) (b .shown)) (present (SpiOn b)))
-      ≡ spiSampled (modelOf part pins st (SpiOn b)) m (SpiSample.stepOf (partOf part) st b l m)
+      ≡ spiSampled (modelOf part pins st (SpiOn b)) m (SpiFlag.flagOf (b .last) l) (SpiSample.stepOf (partOf part) st b l m)
   unfolding SpiSample.stepOf
-  spi-held b l e = rw (← e, eq-eqb (present (SpiOn b)) (present (SpiOn b)) refl, spi-same (b .last))
+  spi-held b l e = rw (← e, eq-eqb (present (SpiOn b)) (present (SpiOn b)) refl, spi-same (b .last), same-level (b .last .wp))
 
   i2c-held : (b : I2c) (l : I2cLevel.Levels) → b .last ≡ l
       → keeping m (expected (modelOf part pins st (I2cOn b)) (I2cSample.answerOf (b .pulling)) (present (I2cOn b)))
-      ≡ i2cSampled (modelOf part pins st (I2cOn b)) m (I2cSample.stepOf (partOf part) pins b l m)
+      ≡ i2cSampled (modelOf part pins st (I2cOn b)) m (I2cFlag.flagOf (b .phase) (b .last) l) (I2cSample.stepOf (partOf part) pins b l m)
   unfolding I2cSample.stepOf
-  i2c-held b l e = rw (← e, eq-eqb (present (I2cOn b)) (present (I2cOn b)) refl, i2c-same (b .pulling) (b .last))
+  i2c-held b l e = rw (← e, eq-eqb (present (I2cOn b)) (present (I2cOn b)) refl, i2c-same (b .pulling) (b .last), same-level (b .last .wp))
 
   held-on : (b : BusState) (x : ℕ) → LastOn b x
       → advanceOn b (partOf part) (modelOf part pins st b) m (Expected (present b)) ≡ advanceOn b (partOf part) (modelOf part pins st b) m (Sample x)
@@ -104,10 +108,10 @@ module _ (s : Model) (m : List ℕ) (last : ℕ) (on : LastOn (s .bus) last) whe
 -- ---- a turn of a loop
 
 -- the event at offset o is taken as the sample x, and gives r
-pub takes : {t : List ℕ} {q : ℕ} {goal : End} {s : Model} {c o : ℕ} {m buf : List ℕ} → Going t q goal s c o m buf
+pub takes : {t : List ℕ} {q : ℕ} {goal : End} {s : Model} {f c o : ℕ} {m buf : List ℕ} → Going t q goal s f c o m buf
     → (limit a : ℕ) → ((u : List ℕ) → staysOn (s .bus) u ≡ staysFirst limit a u) → nextIs limit a q c (drop o t) ≡ true
     → (last : ℕ) → LastOn (s .bus) last → (x : ℕ) → x ≡ firstSample last (drop o t) → (r : Outcome) → advanceOf s m (Sample x) ≡ r
-    → Going t q goal (r .result .model) (c + 1) (o + 2) (r .memory) (set buf c (r .result .answer))
-takes {t} {q} {s = s} {c} {o} {m} g limit a bus h last on x ex r e =
+    → Going t q goal (r .result .model) (flagAt (length t) f o (r .result .flag)) (c + 1) (o + 2) (r .memory) (set buf c (r .result .answer))
+takes {t} {q} {s = s} {c = c} {o} {m} g limit a bus h last on x ex r e =
     goes-on g limit a bus h r
     (first-sampled s m last on (drop o t) (bus (drop o t) ∙ first limit a q c (drop o t) h) ∙ rw ex at e)

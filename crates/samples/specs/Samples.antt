@@ -4,7 +4,7 @@ use Prim.Native.Nat.{ℕ, zero, suc, _+_}
 use mathlib.Core.Bool.{Bool, false, cond}
 use mathlib.Core.List.{List, [], _∷_}
 use lib.Dec.{eqb, ltb}
-use lib.ListN.{drop, getD}
+use lib.ListN.{length, drop, getD}
 use Rattle.parts.specs.declared.answer.Answer.{Answer}
 use Rattle.parts.specs.declared.part.Bus.the-variants.{Spi, I2c}
 use Rattle.parts.specs.Numbers.{answerNumber}
@@ -23,22 +23,32 @@ use Rattle.chip.specs.declared.model.BusState.{BusState}
 use Rattle.chip.specs.declared.model.BusState.the-variants.{Unpowered, SpiOn, I2cOn}
 use Rattle.chip.specs.declared.model.Model.{Model}
 use Rattle.events.specs.Event.{Outcome, advanceOf}
+use Rattle.events.specs.Flag.{flagFrom, firstFlag}
 use Rattle.samples.specs.declared.progress.Progress.{Progress}
 
--- state, count of events, bytes taken, memory and answers
+-- state, count of events, bytes taken, the offset of the first flagged one or the length of the trace, memory and answers
 pub record Samples : Type 0 where
   pub model : Model
   pub count : ℕ
   pub offset : ℕ
+  pub flag : ℕ
   pub memory : List ℕ
   pub answers : List ℕ
 
-abbrev pub none : Model → List ℕ → Samples
-none s m = record { model = s; count = 0; offset = 0; memory = m; answers = [] }
+abbrev pub none : List ℕ → Model → List ℕ → Samples
+none t s m = record { model = s; count = 0; offset = 0; flag = length t; memory = m; answers = [] }
 
--- one event with this answer before others
-abbrev pub one : ℕ → Samples → Samples
-one a r = record { model = r .model; count = 1 + r .count; offset = 2 + r .offset; memory = r .memory; answers = a ∷ r .answers }
+-- one event with this answer, flagged or not, before others
+abbrev pub one : ℕ → Bool → Samples → Samples
+one a f r =
+    record {
+      model = r .model;
+      count = 1 + r .count;
+      offset = 2 + r .offset;
+      flag = flagFrom f 2 (r .flag);
+      memory = r .memory;
+      answers = a ∷ r .answers;
+    }
 
 -- whether the next event is a sample in range, or an expected answer that holds, of a part under power
 abbrev pub staysOn : BusState → List ℕ → Bool
@@ -52,20 +62,21 @@ firstDone s m t = advanceOf s m (firstEvent t)
 
 -- at most `quota` of them from the front of t
 unfoldable pub samplesOf : ℕ → List ℕ → Model → List ℕ → Samples
-samplesOf zero t s m = none s m
+samplesOf zero t s m = none t s m
 samplesOf (suc quota) t s m =
     cond (staysOn (s .bus) t)
-    (one (firstDone s m t .result .answer) (samplesOf quota (drop 2 t) (firstDone s m t .result .model) (firstDone s m t .memory)))
-    (none s m)
+    (one (firstDone s m t .result .answer) (firstDone s m t .result .flag)
+    (samplesOf quota (drop 2 t) (firstDone s m t .result .model) (firstDone s m t .memory)))
+    (none t s m)
 
 -- ---- how far a run has come with them
 
-abbrev pub progress : Model → ℕ → ℕ → Progress
-progress s c o = record { model = s; count = c; offset = o }
+abbrev pub progress : Model → ℕ → ℕ → ℕ → Progress
+progress s c o f = record { model = s; count = c; offset = o; flag = f }
 
--- after c events and o bytes before them
-abbrev pub progressBy : ℕ → ℕ → Samples → Progress
-progressBy c o r = progress (r .model) (c + r .count) (o + r .offset)
+-- after c events and o bytes before them, of a trace of n bytes whose first flag before them is at f
+abbrev pub progressBy : ℕ → ℕ → ℕ → ℕ → Samples → Progress
+progressBy n f c o r = progress (r .model) (c + r .count) (o + r .offset) (firstFlag n f (o + r .flag))
 
 -- whether one more event is allowed and t begins with a sample below the limit, or with this expected answer
 abbrev pub nextIs : ℕ → ℕ → ℕ → ℕ → List ℕ → Bool

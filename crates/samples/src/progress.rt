@@ -3,33 +3,49 @@ ghost use mathlib.Core.Path.{_≡_};
 ghost use Prim.Native.Nat.{_≤_, _+_};
 ghost use lib.ListN.{length, drop};
 ghost use Rattle.chip.specs.Model.{modelOf};
+ghost use Rattle.events.specs.Flag.{flagAt};
 ghost use Rattle.samples.specs.Samples.{progress, firstSample};
 use chip::model::BusState;
 use chip::model::Model;
 use parts::status::Status;
 
-// State, how many events are accepted, and how many bytes of the trace these take.
+// State, how many events are accepted, how many bytes of the trace these take, and the offset of the first flagged one, which is the
+// length of the trace if there is none.
 pub struct Progress {
     pub model: Model,
     pub count: usize,
     pub offset: usize,
+    pub flag: usize,
 }
 
-// The state of this part and these pins after so many events and bytes.
+// The state of this part and these pins after so many events and bytes, and the first flag at this offset.
 pub fn progress_at(
     model: Model,
     status: Status,
     bus: BusState,
     count: usize,
     offset: usize,
+    flag: usize,
 ) -> Progress
-    ensures { λ r. ⌜ r ≡ progress (modelOf (model .part) (model .pins) status bus) count offset ⌝ }
+    ensures { λ r. ⌜ r ≡ progress (modelOf (model .part) (model .pins) status bus) count offset flag ⌝ }
 {
     let model = chip::model::with_bus(model, status, bus);
     Progress {
         model,
         count,
         offset,
+        flag,
+    }
+}
+
+// The offset of the first flagged event of a trace of this length, once the event at offset is taken, flagged or not.
+pub fn flag_at(length: usize, flag: usize, offset: usize, flagged: bool) -> usize
+    ensures { λ r. ⌜ r ≡ flagAt length flag offset flagged ⌝ }
+{
+    if flagged {
+        if flag == length { offset } else { flag }
+    } else {
+        flag
     }
 }
 

@@ -34,7 +34,7 @@ pub fn edge_of(before: Levels, now: Levels) -> Edge
 }
 
 // Of a part that is selected in both samples: HOLD# before and now, SCK before and now, SI now.
-fn clock_edge(before: bool, hold: bool, was: bool, sck: bool, si: bool) -> Edge
+pub fn clock_edge(before: bool, hold: bool, was: bool, sck: bool, si: bool) -> Edge
     ensures { λ r. ⌜ r ≡ clockEdge before hold was sck si ⌝ }
 {
     if before {

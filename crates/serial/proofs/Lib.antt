@@ -1,3 +1,4 @@
 pub mod BitLaws
 pub mod AddressLaws
 pub mod WriteLaws
+pub mod LevelLaws

@@ -1,3 +1,4 @@
 pub mod Bits
 pub mod Address
 pub mod Write
+pub mod Level

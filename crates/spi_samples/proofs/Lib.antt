@@ -1,1 +1,2 @@
 pub mod SpiLaws
+pub mod SteadyLaws

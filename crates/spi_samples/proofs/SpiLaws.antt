@@ -19,6 +19,7 @@ use Rattle.selection.specs.declared.levels.Levels.{Levels}
 use Rattle.selection.specs.declared.phase.Phase.{Phase}
 use Rattle.spi.specs.declared.sample.Spi.{Spi}
 use Rattle.selection.specs.Edge.{edgeOf}
+use Rattle.selection.specs.Flag.{flagOf}
 use Rattle.selection.specs.Levels.{levelsOf}
 use Rattle.spi.specs.Show.{answerAt}
 use Rattle.spi.specs.Sample as SpiSample
@@ -26,7 +27,8 @@ use Rattle.spi.specs.Sample.{stepOn, stepOf, Ready}
 use Rattle.chip.specs.declared.model.BusState.{BusState}
 use Rattle.chip.specs.declared.model.BusState.the-variants.{SpiOn}
 use Rattle.chip.specs.declared.model.Model.{Model}
-use Rattle.events.specs.Event.{Outcome, accepted, spiSampled, advanceOf}
+use Rattle.events.specs.Event.{Outcome, sampled, spiSampled, advanceOf}
+use Rattle.events.specs.Flag.{flagAt}
 use Rattle.chip.specs.Check.{Sound}
 use Rattle.chip.specs.Model.{modelOf}
 use Rattle.chip.proofs.CheckLaws.{sound-in, spi-ready}
@@ -56,12 +58,12 @@ module _ (s : Model) (st : Status) (last : ℕ) (z : Bool) (shown : Answer) (ph 
   abbrev stepped : Edge → Outcome
   stepped e =
       record {
-        result = accepted (answerAt (levelsOf x) (step e .spi .shown)) (spiModel s (step e .status) x (step e .spi .asleep) (step e .spi .shown) (step e .spi .phase));
+        result = sampled (flagOf (levelsOf last) (levelsOf x)) (answerAt (levelsOf x) (step e .spi .shown)) (spiModel s (step e .status) x (step e .spi .asleep) (step e .spi .shown) (step e .spi .phase));
         memory = applied (step e .write) m;
       }
 
   -- the levels are then those of x, and the answer is what is shown then
-  by-edge : (e : Edge) → spiSampled (spiModel s st last z shown ph) m (step e) ≡ stepped e
+  by-edge : (e : Edge) → spiSampled (spiModel s st last z shown ph) m (flagOf (levelsOf last) (levelsOf x)) (step e) ≡ stepped e
   by-edge Select = refl
   by-edge Deselect = refl
   by-edge (Rise b) = refl
@@ -90,15 +92,15 @@ pub turned-length : {r : Edge} {p : Part} {st : Status} {x : Spi} {l : Levels} {
 turned-length {r} {p} {st} {x} {l} {m} w = ap length (w .memory) ∙ length-applied (stepOn (w .edge) p st x l m .write) m
 
 -- the event at offset o is taken as the sample x, and its answer noted
-module _ {t : List ℕ} {q : ℕ} {goal : End} {c o : ℕ} {buf : List ℕ} (s : Model) (st : Status) (last : ℕ) (z : Bool) (shown : Answer) (ph : Phase) (m : List ℕ)
-    (g : Going t q goal (spiModel s st last z shown ph) c o m buf)
+module _ {t : List ℕ} {q : ℕ} {goal : End} {f c o : ℕ} {buf : List ℕ} (s : Model) (st : Status) (last : ℕ) (z : Bool) (shown : Answer) (ph : Phase) (m : List ℕ)
+    (g : Going t q goal (spiModel s st last z shown ph) f c o m buf)
     (h : nextIs 32 (answerNumber (answerAt (levelsOf last) shown)) q c (drop o t) ≡ true)
     (p : Part) (ep : p ≡ partOf (s .part)) (x : ℕ) (ex : x ≡ firstSample last (drop o t)) (before l : Levels) (eb : before ≡ levelsOf last) (el : l ≡ levelsOf x)
     (r : Edge) (er : r ≡ edgeOf before l) where
-  pub turn : (st' : Status) (z' : Bool) (shown' : Answer) (ph' : Phase) (m' buf' : List ℕ) → Turned r p st (spiOf (levelsOf last) z shown ph) l m st' z' shown' ph' m'
+  pub turn : (f' : ℕ) (st' : Status) (z' : Bool) (shown' : Answer) (ph' : Phase) (m' buf' : List ℕ) → f' ≡ flagAt (length t) f o (flagOf before l) → Turned r p st (spiOf (levelsOf last) z shown ph) l m st' z' shown' ph' m'
       → buf' ≡ set buf c (answerNumber (answerAt l shown'))
-      → Going t q goal (spiModel s st' x z' shown' ph') (c + 1) (o + 2) m' buf'
-  turn st' z' shown' ph' m' buf' w noted =
+      → Going t q goal (spiModel s st' x z' shown' ph') f' (c + 1) (o + 2) m' buf'
+  turn f' st' z' shown' ph' m' buf' ef w noted =
       let k : edgeOf (levelsOf last) (levelsOf x) ≡ w .edge = rw (eb, el) at (sym er ∙ w .seen) in
-      rw (noted, w .memory, w .status, w .asleep, w .shown, w .phase, ep, el)
+      rw (ef, noted, w .memory, w .status, w .asleep, w .shown, w .phase, ep, eb, el)
       (takes g 32 (answerNumber (answerAt (levelsOf last) shown)) (λ u. refl) h last refl x ex _ (steps s st last z shown ph m x (w .edge) k))

@@ -15,7 +15,8 @@ use selection::edge::Edge;
 use selection::phase::Phase;
 use spi::sample::Spi;
 
-// As many of these events as come one after the other from offset `start` on, within the quota, after `first` accepted events.
+// As many of these events as come one after the other from offset `start` on, within the quota, after `first` accepted events, of which
+// the first flagged one is at `earlier`.
 pub fn spi_samples(
     part: Part,
     model: Model,
@@ -24,11 +25,12 @@ pub fn spi_samples(
     quota: usize,
     first: usize,
     start: usize,
+    earlier: usize,
     memory: &mut [u8],
     answers: &mut [u8],
 ) -> Progress
     requires { ⌜ (part ≡ partOf (model .part)) × (model .bus ≡ SpiOn spi) × Sound model (now memory) × (start ≤ length (now trace)) ⌝ }
-    ensures progress { λ r. ⌜ r ≡ progressBy first start (samplesOf (quota - first) (drop start (now (trace .entry))) model (now (memory .entry))) ⌝ }
+    ensures progress { λ r. ⌜ r ≡ progressBy (length (now (trace .entry))) earlier first start (samplesOf (quota - first) (drop start (now (trace .entry))) model (now (memory .entry))) ⌝ }
     ensures memory { λ r. ⌜ now (memory .exit) ≡ samplesOf (quota - first) (drop start (now (trace .entry))) model (now (memory .entry)) .memory ⌝ }
     ensures answers { λ r. ⌜ now (answers .exit) ≡ sets (now (answers .entry)) first (samplesOf (quota - first) (drop start (now (trace .entry))) model (now (memory .entry)) .answers) ⌝ }
 {
@@ -39,10 +41,22 @@ pub fn spi_samples(
     let mut phase = spi.phase;
     let mut count = first;
     let mut offset = start;
+    let mut flag = earlier;
     while crate::turn::next_is(trace, quota, count, offset, last, shown) {
         let sample = samples::progress::first_sample(trace, offset, last);
         let levels = selection::levels::levels_of(sample);
-        match selection::edge::edge_of(selection::levels::levels_of(last), levels) {
+        let before = selection::levels::levels_of(last);
+        let edge = if crate::turn::steady(last, sample) {
+            if crate::turn::running(sample) {
+                selection::edge::clock_edge(true, true, before.sck, levels.sck, levels.si)
+            } else {
+                Edge::Quiet
+            }
+        } else {
+            flag = crate::turn::flag_after(trace.len(), flag, offset, before, levels);
+            selection::edge::edge_of(before, levels)
+        };
+        match edge {
             Edge::Select => {
                 phase = spi::sample::select(asleep);
                 shown = Answer::HighZ;
@@ -72,5 +86,6 @@ pub fn spi_samples(
         crate::turn::on_bus(last, asleep, shown, phase),
         count,
         offset,
+        flag,
     )
 }

@@ -1,9 +1,10 @@
-// What one turn of the loop asks and does: whether there is a next event, what a rise stores, the answer noted.
+// What one turn of the loop asks and does: whether there is a next event, its edge and flag, what a rise stores, the answer noted.
 ghost use mathlib.Core.Path.{_≡_};
 ghost use Prim.Native.Nat.{_≤_};
 ghost use lib.ListN.{length, drop, set};
 ghost use Rattle.parts.specs.Table.{Fit};
 ghost use Rattle.serial.specs.Write.{applied};
+ghost use Rattle.selection.specs.Flag.{flagOf};
 ghost use Rattle.selection.specs.Levels.{levelsOf};
 ghost use Rattle.selection.specs.Phase.{afterRise};
 ghost use Rattle.selection.specs.Ranges.{PhaseIn};
@@ -11,7 +12,9 @@ ghost use Rattle.spi.specs.Show.{answerAt};
 ghost use Rattle.spi.specs.Store.{riseWrite};
 ghost use Rattle.chip.specs.declared.model.BusState.the-variants.{SpiOn};
 ghost use Rattle.parts.specs.Numbers.{answerNumber};
+ghost use Rattle.events.specs.Flag.{flagAt};
 ghost use Rattle.samples.specs.Samples.{nextIs, spiOf};
+ghost use Rattle.spi_samples.specs.Steady.{steady, running};
 use chip::model::BusState;
 use parts::answer::Answer;
 use parts::part::Part;
@@ -40,6 +43,36 @@ pub fn note_shown(answers: &mut [u8], at: usize, levels: Levels, shown: Answer)
 {
     let answer = spi::show::answer_at(levels, shown);
     samples::note::note(answers, at, answer.number());
+}
+
+// Whether CS#, WP# and HOLD# are as before, told by the two bytes: most samples are such.
+pub fn steady(last: u8, sample: u8) -> bool
+    ensures { λ r. ⌜ r ≡ steady last sample ⌝ }
+{
+    if last / 8 == sample / 8 {
+        last % 2 == sample % 2
+    } else {
+        false
+    }
+}
+
+// Whether the part is selected and not held.
+pub fn running(sample: u8) -> bool
+    ensures { λ r. ⌜ r ≡ running sample ⌝ }
+{
+    if sample % 2 == 0 {
+        sample / 16 % 2 == 1
+    } else {
+        false
+    }
+}
+
+// The offset of the first flagged event, once the sample at offset is taken.
+pub fn flag_after(length: usize, flag: usize, offset: usize, before: Levels, now: Levels) -> usize
+    ensures { λ r. ⌜ r ≡ flagAt length flag offset (flagOf before now) ⌝ }
+{
+    let flagged = selection::flag::flag_of(before, now);
+    samples::progress::flag_at(length, flag, offset, flagged)
 }
 
 // A counted rise: its write is stored, and the phase after it given back.

@@ -11,7 +11,8 @@ use chip::model::Model;
 use parts::part::Part;
 use samples::progress::Progress;
 
-// From offset `start` on, within the quota, after `first` accepted events. Without power there are none.
+// From offset `start` on, within the quota, after `first` accepted events, of which the first flagged one is at `earlier`. Without power
+// there are none.
 pub fn samples(
     part: Part,
     model: Model,
@@ -19,11 +20,12 @@ pub fn samples(
     quota: usize,
     first: usize,
     start: usize,
+    earlier: usize,
     memory: &mut [u8],
     answers: &mut [u8],
 ) -> Progress
     requires { ⌜ (part ≡ partOf (model .part)) × Sound model (now memory) × (start ≤ length (now trace)) ⌝ }
-    ensures progress { λ r. ⌜ r ≡ progressBy first start (samplesOf (quota - first) (drop start (now (trace .entry))) model (now (memory .entry))) ⌝ }
+    ensures progress { λ r. ⌜ r ≡ progressBy (length (now (trace .entry))) earlier first start (samplesOf (quota - first) (drop start (now (trace .entry))) model (now (memory .entry))) ⌝ }
     ensures memory { λ r. ⌜ now (memory .exit) ≡ samplesOf (quota - first) (drop start (now (trace .entry))) model (now (memory .entry)) .memory ⌝ }
     ensures answers { λ r. ⌜ now (answers .exit) ≡ sets (now (answers .entry)) first (samplesOf (quota - first) (drop start (now (trace .entry))) model (now (memory .entry)) .answers) ⌝ }
 {
@@ -31,7 +33,7 @@ pub fn samples(
     match bus {
         BusState::Unpowered => {
             let status = model.status;
-            samples::progress::progress_at(model, status, bus, first, start)
+            samples::progress::progress_at(model, status, bus, first, start, earlier)
         }
         BusState::SpiOn { spi } => spi_samples::consecutive::spi_samples(
             part,
@@ -41,6 +43,7 @@ pub fn samples(
             quota,
             first,
             start,
+            earlier,
             memory,
             answers,
         ),
@@ -52,6 +55,7 @@ pub fn samples(
             quota,
             first,
             start,
+            earlier,
             memory,
             answers,
         ),

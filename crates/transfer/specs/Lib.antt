@@ -3,4 +3,5 @@ pub mod Edge
 pub mod Word
 pub mod Buffer
 pub mod Phase
+pub mod Flag
 pub mod Ranges

@@ -14,7 +14,7 @@ pub enum Edge {
 }
 
 // The line's level: high only if nobody holds it low, neither the part nor the others.
-fn line_of(sda: bool, pulling: bool) -> bool
+pub fn line_of(sda: bool, pulling: bool) -> bool
     ensures { λ r. ⌜ r ≡ lineOf sda pulling ⌝ }
 {
     if pulling { false } else { sda }

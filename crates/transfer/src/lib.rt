@@ -1,7 +1,8 @@
-// An I2C transfer, bit by bit: the line with START and STOP, the device address word, the address buffer, and the phase, which is what
-// the part waits for.
+// An I2C transfer, bit by bit: the line with START and STOP, the device address word, the address buffer, the phase, which is what the
+// part waits for, and the warning flag.
 pub mod buffer;
 pub mod edge;
+pub mod flag;
 pub mod levels;
 pub mod phase;
 pub mod range;

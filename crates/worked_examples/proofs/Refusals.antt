@@ -2,7 +2,7 @@
 use Prim.Native.Nat.{ℕ}
 use mathlib.Core.Path.{_≡_, refl, ap, _∙_}
 use mathlib.Core.List.{List, [], _∷_, map}
-use lib.ListN.{getD}
+use lib.ListN.{length, getD}
 use Rattle.trace.specs.Read.{readOf}
 use Rattle.chip.specs.Check.{checkOf}
 use Rattle.chip.specs.Model.{unpowered}
@@ -14,10 +14,10 @@ use Rattle.worked_examples.specs.Refusals.{Refusal, answerTo, EventRefus
 use Rattle.worked_examples.proofs.Trail.{Done, outcome, unwritten, eventBy, event-by, Trail, runFrom, stopBy, loopBy, runBy, run-by}
 
 -- two lists with the same entries
-head-same : {A : Type 0} {x y : A} {xs ys : List A} → x ∷ xs ≡ y ∷ ys → x ≡ y
+pub head-same : {A : Type 0} {x y : A} {xs ys : List A} → x ∷ xs ≡ y ∷ ys → x ≡ y
 head-same h = cc
 
-tail-same : {A : Type 0} {x y : A} {xs ys : List A} → x ∷ xs ≡ y ∷ ys → xs ≡ ys
+pub tail-same : {A : Type 0} {x y : A} {xs ys : List A} → x ∷ xs ≡ y ∷ ys → xs ≡ ys
 tail-same h = cc
 
 -- ---- events, with g for the bytes of the memory
@@ -73,7 +73,7 @@ abbrev runGiven : (ℕ → ℕ) → Refusal → Trail
 runGiven g x = runBy 1 (x .size) (x .event) (x .model) g
 
 abbrev runWanted : Refusal → Trail
-runWanted x = stopBy (x .number) (x .place) (x .model)
+runWanted x = stopBy (x .number) (x .place) (x .event) (x .model)
 
 runs-refused : (xs : List Refusal) → ((g : ℕ → ℕ) → map (runGiven g) xs ≡ map runWanted xs) → Every RunRefused xs
 runs-refused [] h = tt
@@ -92,19 +92,20 @@ refused-runs = runs-refused refusals runs-tested
 
 -- ---- runs of several
 
--- number, count and offset
+-- number, count and both offsets
 pub record Figures : Type 0 where
   pub number : ℕ
   pub count : ℕ
   pub offset : ℕ
+  pub flag : ℕ
 
 abbrev figuresGiven : (ℕ → ℕ) → Stopped → Figures
 figuresGiven g x =
     let r = runBy 8 (x .size) (x .trace) (madeOf (x .part) 0 0) g in
-    record { number = r .number; count = r .count; offset = r .offset }
+    record { number = r .number; count = r .count; offset = r .offset; flag = r .flag }
 
 abbrev figuresWanted : Stopped → Figures
-figuresWanted x = record { number = x .number; count = x .count; offset = x .offset }
+figuresWanted x = record { number = x .number; count = x .count; offset = x .offset; flag = length (x .trace) }
 
 runs-stop : (xs : List Stopped) → ((g : ℕ → ℕ) → map (figuresGiven g) xs ≡ map figuresWanted xs) → Every RunStopped xs
 runs-stop [] h = tt
@@ -112,7 +113,7 @@ runs-stop (x ∷ xs) h = (
   λ m e.
       let f = head-same (h (λ a. getD m a 0)) in
       let r = run-by 8 (x .size) (x .trace) (madeOf (x .part) 0 0) m (λ a. getD m a 0) e (λ a. refl) in
-      rw r (ap (λ (k : Figures). k .number) f, (ap (λ (k : Figures). k .count) f, ap (λ (k : Figures). k .offset) f)),
+      rw r (ap (λ (k : Figures). k .number) f, (ap (λ (k : Figures). k .count) f, ap (λ (k : Figures). k .offset) f, ap (λ (k : Figures). k .flag) f)),
   runs-stop xs (λ g. tail-same (h g)),
 )
 
@@ -120,7 +121,7 @@ stops-tested : (g : ℕ → ℕ) → map (figuresGiven g) stoppedRuns ≡ map fi
 unfolding stoppedRuns checkOf readOf makeOf loopBy
 stops-tested g = refl
 
--- each run of the list gives its number, count and offset
+-- each run of the list gives its number, count and offset, and no flag
 pub stopped-runs : Every RunStopped stoppedRuns
 stopped-runs = runs-stop stoppedRuns stops-tested
 

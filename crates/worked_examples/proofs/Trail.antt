@@ -30,6 +30,7 @@ use Rattle.selection.specs.declared.phase.Phase.the-variants as SpiPhases
 use Rattle.selection.specs.declared.phase.Source.{Source}
 use Rattle.selection.specs.declared.phase.Source.the-variants.{Memory, Register, Identity}
 use Rattle.selection.specs.Edge as SpiEdgeOf
+use Rattle.selection.specs.Flag as SpiFlag
 use Rattle.selection.specs.Levels as SpiLevels
 use Rattle.spi.specs.declared.sample.Spi as SpiState
 use Rattle.spi.specs.Sample as SpiSample
@@ -40,6 +41,7 @@ use Rattle.transfer.specs.declared.levels.Levels as I2cLevel
 use Rattle.transfer.specs.declared.phase.Phase as I2cPhase
 use Rattle.transfer.specs.declared.phase.Phase.the-variants as I2cPhases
 use Rattle.transfer.specs.Edge as I2cEdgeOf
+use Rattle.transfer.specs.Flag as I2cFlag
 use Rattle.transfer.specs.Levels as I2cLevels
 use Rattle.i2c.specs.declared.sample.I2c as I2cState
 use Rattle.i2c.specs.Pull as I2cPull
@@ -52,6 +54,7 @@ use Rattle.chip.specs.declared.model.Model.{Model}
 use Rattle.chip.specs.Check.{checkOf}
 use Rattle.events.specs.declared.event.Answered.{Answered}
 use Rattle.events.specs.Event.{Outcome, refused, onUnpowered, spiSampled, i2cSampled, onSpi, onI2c, advanceOn, advanceOf}
+use Rattle.events.specs.Flag.{flagFrom}
 use Rattle.runs.specs.Event as Events
 use Rattle.runs.specs.Event.{eventOf}
 use Rattle.runs.specs.Run as Runs
@@ -189,17 +192,18 @@ outcome m d = record { result = d .result; memory = applied (d .write) m }
 abbrev pub unwritten : Answered → Done
 unwritten r = record { result = r; write = Nothing }
 
-abbrev spiDone : Model → SpiSample.Outcome → Done
-spiDone s o = record { result = spiSampled s [] o .result; write = o .write }
+abbrev spiDone : Model → Bool → SpiSample.Outcome → Done
+spiDone s flag o = record { result = spiSampled s [] flag o .result; write = o .write }
 
-abbrev i2cDone : Model → I2cSample.Outcome → Done
-i2cDone s o = record { result = i2cSampled s [] o .result; write = o .write }
+abbrev i2cDone : Model → Bool → I2cSample.Outcome → Done
+i2cDone s flag o = record { result = i2cSampled s [] flag o .result; write = o .write }
 
 abbrev onSpiBy : Part → Model → SpiState.Spi → (ℕ → ℕ) → Event → Done
 onSpiBy p s x f (SpiPowerOn v) = unwritten (onSpi p s x [] (SpiPowerOn v) .result)
 onSpiBy p s x f (I2cPowerOn v a) = unwritten (onSpi p s x [] (I2cPowerOn v a) .result)
 onSpiBy p s x f PowerOff = unwritten (onSpi p s x [] PowerOff .result)
-onSpiBy p s x f (Sample v) = spiDone s (spiBy (SpiEdgeOf.edgeOf (x .last) (SpiLevels.levelsOf v)) p (s .status) x (SpiLevels.levelsOf v) f)
+onSpiBy p s x f (Sample v) =
+    spiDone s (SpiFlag.flagOf (x .last) (SpiLevels.levelsOf v)) (spiBy (SpiEdgeOf.edgeOf (x .last) (SpiLevels.levelsOf v)) p (s .status) x (SpiLevels.levelsOf v) f)
 onSpiBy p s x f (Expected v) = unwritten (onSpi p s x [] (Expected v) .result)
 
 abbrev onI2cBy : Part → Model → I2cState.I2c → (ℕ → ℕ) → Event → Done
@@ -207,7 +211,7 @@ onI2cBy p s x f (SpiPowerOn v) = unwritten (onI2c p s x [] (SpiPowerOn v) .resul
 onI2cBy p s x f (I2cPowerOn v a) = unwritten (onI2c p s x [] (I2cPowerOn v a) .result)
 onI2cBy p s x f PowerOff = unwritten (onI2c p s x [] PowerOff .result)
 onI2cBy p s x f (Sample v) =
-    i2cDone s (i2cBy (I2cEdgeOf.edgeOf (x .pulling) (x .last) (I2cLevels.levelsOf v)) p (s .pins) x (I2cLevels.levelsOf v) f)
+    i2cDone s (I2cFlag.flagOf (x .phase) (x .last) (I2cLevels.levelsOf v)) (i2cBy (I2cEdgeOf.edgeOf (x .pulling) (x .last) (I2cLevels.levelsOf v)) p (s .pins) x (I2cLevels.levelsOf v) f)
 onI2cBy p s x f (Expected v) = unwritten (onI2c p s x [] (Expected v) .result)
 
 abbrev advanceBy : BusState → Part → Model → (ℕ → ℕ) → Event → Done
@@ -234,7 +238,7 @@ module _ (m : List ℕ) (f : ℕ → ℕ) (h : Reads m f) where
   on-spi-by p s x (I2cPowerOn v a) = refl
   on-spi-by p s x PowerOff = refl
   on-spi-by p s x (Sample v) =
-      ap (spiSampled s m) (spi-by m f h (SpiEdgeOf.edgeOf (x .last) (SpiLevels.levelsOf v)) p (s .status) x (SpiLevels.levelsOf v))
+      ap (spiSampled s m (SpiFlag.flagOf (x .last) (SpiLevels.levelsOf v))) (spi-by m f h (SpiEdgeOf.edgeOf (x .last) (SpiLevels.levelsOf v)) p (s .status) x (SpiLevels.levelsOf v))
   on-spi-by p s x (Expected v) = refl
 
   on-i2c-by : (p : Part) (s : Model) (x : I2cState.I2c) (e : Event) → onI2c p s x m e ≡ outcome m (onI2cBy p s x f e)
@@ -243,7 +247,7 @@ module _ (m : List ℕ) (f : ℕ → ℕ) (h : Reads m f) where
   on-i2c-by p s x (I2cPowerOn v a) = refl
   on-i2c-by p s x PowerOff = refl
   on-i2c-by p s x (Sample v) =
-      ap (i2cSampled s m) (i2c-by m f h (I2cEdgeOf.edgeOf (x .pulling) (x .last) (I2cLevels.levelsOf v)) p (s .pins) x (I2cLevels.levelsOf v))
+      ap (i2cSampled s m (I2cFlag.flagOf (x .phase) (x .last) (I2cLevels.levelsOf v))) (i2c-by m f h (I2cEdgeOf.edgeOf (x .pulling) (x .last) (I2cLevels.levelsOf v)) p (s .pins) x (I2cLevels.levelsOf v))
   on-i2c-by p s x (Expected v) = refl
 
   advance-by : (b : BusState) (p : Part) (s : Model) (e : Event) → advanceOn b p s m e ≡ outcome m (advanceBy b p s f e)
@@ -266,12 +270,13 @@ module _ (m : List ℕ) (f : ℕ → ℕ) (h : Reads m f) where
 
 -- ---- a run
 
--- number, state, count, offset, the bytes written and the answers
+-- number, state, count, both offsets, the bytes written and the answers
 pub record Trail : Type 0 where
   pub number : ℕ
   pub model : Model
   pub count : ℕ
   pub offset : ℕ
+  pub flag : ℕ
   pub writes : List Cell
   pub answers : List ℕ
 
@@ -283,54 +288,56 @@ runFrom m r =
       model = r .model;
       count = r .count;
       offset = r .offset;
+      flag = r .flag;
       memory = withCells m (r .writes);
       answers = r .answers;
     }
 
-abbrev pub stopBy : ℕ → ℕ → Model → Trail
-stopBy n place s = record { number = n; model = s; count = 0; offset = place; writes = []; answers = [] }
+abbrev pub stopBy : ℕ → ℕ → List ℕ → Model → Trail
+stopBy n place t s = record { number = n; model = s; count = 0; offset = place; flag = length t; writes = []; answers = [] }
 
 abbrev cellsOf : Write → List Cell
 cellsOf Nothing = []
 cellsOf (Byte a v) = cell a v ∷ []
 
-abbrev afterBy : ℕ → ℕ → Write → Trail → Trail
-afterBy a n w r =
+abbrev afterBy : ℕ → Bool → ℕ → Write → Trail → Trail
+afterBy a f n w r =
     record {
       number = r .number;
       model = r .model;
       count = 1 + r .count;
       offset = n + r .offset;
+      flag = flagFrom f n (r .flag);
       writes = cellsOf w ++ r .writes;
       answers = a ∷ r .answers;
     }
 
 unfoldable pub loopBy : ℕ → ℕ → List ℕ → Model → (ℕ → ℕ) → Trail
-loopBy zero size t s f = stopBy 0 0 s
+loopBy zero size t s f = stopBy 0 0 t s
 loopBy (suc quota) size t s f =
     let d = eventBy size s f t in
-    cond (eqb (length t) 0) (stopBy 0 0 s)
+    cond (eqb (length t) 0) (stopBy 0 0 t s)
     (cond (eqb (d .result .number) 0)
-    (afterBy (d .result .answer) (eventLength (getD t 0 0)) (d .write)
+    (afterBy (d .result .answer) (d .result .flag) (eventLength (getD t 0 0)) (d .write)
     (loopBy quota size (drop (eventLength (getD t 0 0)) t) (d .result .model) (updated size (d .write) f)))
-    (stopBy (d .result .number) (fault s t) s))
+    (stopBy (d .result .number) (fault s t) t s))
 
 abbrev runVerdictBy : Verdict → ℕ → ℕ → List ℕ → Model → (ℕ → ℕ) → Trail
 runVerdictBy Passed quota size t s f = loopBy quota size t s f
-runVerdictBy (Failed r) quota size t s f = stopBy (refusalNumber r) 0 s
+runVerdictBy (Failed r) quota size t s f = stopBy (refusalNumber r) 0 t s
 
 abbrev pub runBy : ℕ → ℕ → List ℕ → Model → (ℕ → ℕ) → Trail
 runBy quota size t s f = runVerdictBy (checkOf s size) quota size t s f
 
-after-by : (a n : ℕ) (m : List ℕ) (w : Write) (r : Trail) → after a n (runFrom (applied w m) r) ≡ runFrom m (afterBy a n w r)
-after-by a n m Nothing r = refl
-after-by a n m (Byte i v) r = refl
+after-by : (a : ℕ) (f : Bool) (n : ℕ) (m : List ℕ) (w : Write) (r : Trail) → after a f n (runFrom (applied w m) r) ≡ runFrom m (afterBy a f n w r)
+after-by a f n m Nothing r = refl
+after-by a f n m (Byte i v) r = refl
 
 -- the run r, on a memory with the bytes f
 abbrev By : ℕ → List ℕ → Model → List ℕ → Run → Type 0
 By quota t s m r = (size : ℕ) (f : ℕ → ℕ) → length m ≡ size → Reads m f → r ≡ runFrom m (loopBy quota size t s f)
 
-stops-by : (quota n place : ℕ) (t : List ℕ) (s : Model) (m : List ℕ) → Stops t s m quota n place → By quota t s m (stopAt n place s m)
+stops-by : (quota n place : ℕ) (t : List ℕ) (s : Model) (m : List ℕ) → Stops t s m quota n place → By quota t s m (stopAt n place t s m)
 unfolding loopBy
 stops-by quota n place t s m at-quota size f e h = refl
 stops-by quota n place t s m (at-end z) size f e h = rw (eq-eqb _ _ z)
@@ -340,14 +347,14 @@ stops-by quota n place t s m (at-refusal some not-0) size f e h =
 
 goes-on-by : (quota : ℕ) (t : List ℕ) (s : Model) (m : List ℕ) → (length t ≡ 0 → ⊥) → eventOf s m t .result .number ≡ 0 → (r : Run)
     → By quota (drop (taken t) t) (eventOf s m t .result .model) (eventOf s m t .memory) r
-    → By (suc quota) t s m (after (eventOf s m t .result .answer) (taken t) r)
+    → By (suc quota) t s m (after (eventOf s m t .result .answer) (eventOf s m t .result .flag) (taken t) r)
 unfolding loopBy
 goes-on-by quota t s m some none r k size f e h =
     let v = event-by m f h size s t e in
     let d : Done = eventBy size s f t in
     let next = (rw v at k) size (updated size (d .write) f) (write-length size m e (d .write)) (write-reads size m f e h (d .write)) in
     rw (v, ne-eqb _ _ some, eq-eqb _ _ (rw v at none))
-    (ap (after (d .result .answer) (taken t)) next ∙ after-by (d .result .answer) (taken t) m (d .write) _)
+    (ap (after (d .result .answer) (d .result .flag) (taken t)) next ∙ after-by (d .result .answer) (d .result .flag) (taken t) m (d .write) _)
 
 loop-by : (quota size : ℕ) (t : List ℕ) (s : Model) (m : List ℕ) (f : ℕ → ℕ) → length m ≡ size → Reads m f
     → loopOf quota t s m ≡ runFrom m (loopBy quota size t s f)

@@ -46,9 +46,9 @@ refusal s size e n = record { model = s; size = size; event = e; number = n; pla
 abbrev pub badField : Model → ℕ → List ℕ → ℕ → ℕ → Refusal
 badField s size e n place = record { model = s; size = size; event = e; number = n; place = place }
 
--- the number, answer 2 and the given state
+-- the number, answer 2, no flag and the given state
 abbrev pub answerTo : Refusal → Answered
-answerTo x = record { number = x .number; answer = 2; model = x .model }
+answerTo x = record { number = x .number; answer = 2; flag = false; model = x .model }
 
 -- on every memory of the length the event gives these, and the memory as it was
 abbrev pub EventRefused : Refusal → Type 0
@@ -56,7 +56,7 @@ EventRefused x = (m : List ℕ) → length m ≡ x .size → eventOf (x .model) 
 
 -- and a run of it alone stops with the number and points at the place, state and memory as they were and nothing accepted
 abbrev pub RunRefused : Refusal → Type 0
-RunRefused x = (m : List ℕ) → length m ≡ x .size → runOf 1 (x .event) (x .model) m ≡ stopAt (x .number) (x .place) (x .model) m
+RunRefused x = (m : List ℕ) → length m ≡ x .size → runOf 1 (x .event) (x .model) m ≡ stopAt (x .number) (x .place) (x .event) (x .model) m
 
 -- ---- the states
 
@@ -249,11 +249,13 @@ pub record Stopped : Type 0 where
 abbrev pub stopped : ℕ → ℕ → List ℕ → ℕ → ℕ → ℕ → Stopped
 stopped part size t n c o = record { part = part; size = size; trace = t; number = n; count = c; offset = o }
 
--- number, count and offset of a run on the part just made, pins and bits 0, and every memory of its size; no list below has more events
+-- number, count and offset of a run on the part just made, pins and bits 0, and every memory of its size, and that no event is flagged; no
+-- list below has more events
 abbrev pub RunStopped : Stopped → Type 0
 RunStopped x =
     (m : List ℕ) → length m ≡ x .size → (runOf 8 (x .trace) (madeOf (x .part) 0 0) m .number ≡ x .number)
-    × ((runOf 8 (x .trace) (madeOf (x .part) 0 0) m .count ≡ x .count) × (runOf 8 (x .trace) (madeOf (x .part) 0 0) m .offset ≡ x .offset))
+    × ((runOf 8 (x .trace) (madeOf (x .part) 0 0) m .count ≡ x .count) × (runOf 8 (x .trace) (madeOf (x .part) 0 0) m .offset ≡ x .offset)
+    × (runOf 8 (x .trace) (madeOf (x .part) 0 0) m .flag ≡ length (x .trace)))
 
 -- after a power on of two or five bytes and up to three other events: the bad field's first byte for 6, 10 and 11, the kind byte for the
 -- others, and the trace's length for 0

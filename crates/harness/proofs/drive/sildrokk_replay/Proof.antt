@@ -6,7 +6,7 @@ use Rattle.harness.proofs.drive.sildrokk_replay.Tie as tie
 returns : tie.Need-returns
 returns c =
     let e = c .before .before .before .before .before .before .before .before .replay-made .ensures in
-    (simp (e .0), (e .1 .0, (e .1 .1, simp (c .before .before .write-result .ensures, e .0))))
+    (simp (e .0), (e .1 .0, (e .1 .1, simp (c .before .before .write-ran .ensures, e .0))))
 
 pub sildrokk-replay-spec : {M : Type 1} → statement M
 sildrokk-replay-spec =

@@ -13,7 +13,7 @@ use Rattle.harness.proofs.result.put_number.Tie as tie
 
 abbrev Inv-loop : tie.InvT-loop
 Inv-loop buffer₀ start value left₀ at₀ buffer left at =
-    (left ≤ 8) × (at + left ≤ 16) × (length buffer ≡ length buffer₀) × (sets buffer at (bytesOf left value) ≡ sets buffer₀ start (bytesOf 8 value))
+    (left ≤ 8) × (at + left ≤ 24) × (length buffer ≡ length buffer₀) × (sets buffer at (bytesOf left value) ≡ sets buffer₀ start (bytesOf 8 value))
 
 abbrev μ-loop : tie.MeasureT-loop
 μ-loop buffer₀ start value left₀ at₀ buffer left at = left

@@ -21,12 +21,12 @@ use Rattle.i2c_samples.proofs.consecutive.i2c_samples.Statement.{statem
 use Rattle.i2c_samples.proofs.consecutive.i2c_samples.Tie as tie
 
 abbrev Inv-loop : tie.InvT-loop
-Inv-loop part model trace quota first start memory₀ answers₀ pins last₀ pulling₀ buffer₀ phase₀ count₀ offset₀ memory answers last pulling buffer phase count offset =
+Inv-loop part model trace quota first start earlier memory₀ answers₀ pins last₀ pulling₀ buffer₀ phase₀ count₀ offset₀ flag₀ memory answers last pulling buffer phase count offset flag =
     (part ≡ partOf (model .part)) × (length memory ≡ length memory₀) × (length answers ≡ length answers₀)
-    × Going trace quota (end first start answers₀ (samplesOf (quota - first) (drop start trace) model memory₀)) (i2cModel model last pulling buffer phase) count offset memory answers
+    × Going trace quota (end (length trace) earlier first start answers₀ (samplesOf (quota - first) (drop start trace) model memory₀)) (i2cModel model last pulling buffer phase) flag count offset memory answers
 
 abbrev μ-loop : tie.MeasureT-loop
-μ-loop part model trace quota first start memory₀ answers₀ pins last₀ pulling₀ buffer₀ phase₀ count₀ offset₀ memory answers last pulling buffer phase count offset =
+μ-loop part model trace quota first start earlier memory₀ answers₀ pins last₀ pulling₀ buffer₀ phase₀ count₀ offset₀ flag₀ memory answers last pulling buffer phase count offset flag =
     quota - count
 
 cast-pins : tie.Need-cast-pins Inv-loop μ-loop
@@ -55,21 +55,21 @@ first-sample-requires c κs =
 
 add-count : tie.Need-add-count Inv-loop μ-loop
 add-count c =
-    let next = c .before .before .before .before .before .before .before .before .before in
+    let next = c .before .before .before .before .before .before .before .before .before .before in
     let l = next .before .before .loop in
     let start = next .before .before .before .before .before .before .before .before .before in
     omega (arith, more 8 (answerNumber (answerOf (l .pulling))) (start .args .quota) (l .count) (drop (l .offset) (start .args .trace .now)) (sym (next .before .next-is .ensures) ∙ next .if1 .taken), start .fits .quota)
 
 add-offset : tie.Need-add-offset Inv-loop μ-loop
 add-offset c =
-    let next = c .before .before .before .before .before .before .before .before .before in
+    let next = c .before .before .before .before .before .before .before .before .before .before in
     let l = next .before .before .loop in
     let start = next .before .before .before .before .before .before .before .before .before in
     omega (arith, room 8 (answerNumber (answerOf (l .pulling))) (start .args .quota) (l .count) (l .offset) (start .args .trace .now) (sym (next .before .next-is .ensures) ∙ next .if1 .taken), start .good .1 .1 .1 .0 .0)
 
 loop-less : tie.Need-loop-less Inv-loop μ-loop
 loop-less c =
-    let next = c .before .before .before .before .before .before .before .before .before in
+    let next = c .before .before .before .before .before .before .before .before .before .before in
     let l = next .before .before .loop in
     let a = next .before .before .before .before .before .before .before .before .before .args in
     omega (arith, more 8 (answerNumber (answerOf (l .pulling))) (a .quota) (l .count) (drop (l .offset) (a .trace .now)) (sym (next .before .next-is .ensures) ∙ next .if1 .taken))
@@ -78,29 +78,29 @@ loop-less c =
 
 store-requires : tie.Need-store-requires Inv-loop μ-loop
 store-requires c κs =
-    let l = c .before .before .before .before .before .before .before .before .before .before .loop in
-    let a = c .before .before .before .before .before .before .before .before .before .before .before .before .before .before .before .before .before .args in
+    let l = c .before .before .before .before .before .before .before .before .before .before .before .loop in
+    let a = c .before .before .before .before .before .before .before .before .before .before .before .before .before .before .before .before .before .before .args in
     let r = ready (a .model) (l .last) (l .pulling) (l .buffer) (l .phase) (l .memory) (l .inv .3 .sound) in
     rw (l .inv .0) (r .inside, r .sized)
 
 after-rise-requires : tie.Need-after-rise-requires Inv-loop μ-loop
 after-rise-requires c κs =
-    let l = c .before .before .before .before .before .before .before .before .before .before .before .before .before .loop in
-    let a = c .before .before .before .before .before .before .before .before .before .before .before .before .before .before .before .before .before .before .before .before .args in
+    let l = c .before .before .before .before .before .before .before .before .before .before .before .before .before .before .loop in
+    let a = c .before .before .before .before .before .before .before .before .before .before .before .before .before .before .before .before .before .before .before .before .before .args in
     let r = ready (a .model) (l .last) (l .pulling) (l .buffer) (l .phase) (l .memory) (l .inv .3 .sound) in
     rw (l .inv .0) (r .placed, r .inside)
 
 buffer-after-requires : tie.Need-buffer-after-requires Inv-loop μ-loop
 buffer-after-requires c κs =
-    let l = c .before .before .before .before .before .before .before .before .before .before .before .before .before .before .loop in
-    let a = c .before .before .before .before .before .before .before .before .before .before .before .before .before .before .before .before .before .before .before .before .before .args in
+    let l = c .before .before .before .before .before .before .before .before .before .before .before .before .before .before .before .loop in
+    let a = c .before .before .before .before .before .before .before .before .before .before .before .before .before .before .before .before .before .before .before .before .before .before .args in
     let r = ready (a .model) (l .last) (l .pulling) (l .buffer) (l .phase) (l .memory) (l .inv .3 .sound) in
     rw (l .inv .0) (r .placed .fit, r .inside)
 
 pulls-after-requires : tie.Need-pulls-after-requires Inv-loop μ-loop
 pulls-after-requires c κs =
-    let l = c .before .before .before .before .before .before .before .before .before .loop in
-    let a = c .before .before .before .before .before .before .before .before .before .before .before .before .before .before .before .before .args in
+    let l = c .before .before .before .before .before .before .before .before .before .before .loop in
+    let a = c .before .before .before .before .before .before .before .before .before .before .before .before .before .before .before .before .before .args in
     let r = ready (a .model) (l .last) (l .pulling) (l .buffer) (l .phase) (l .memory) (l .inv .3 .sound) in
     rw (l .inv .0) (omega (arith, r .placed .wired, r .placed .fit .few), r .sized, r .inside)
 
@@ -111,10 +111,12 @@ loop-again c =
     let here = c .before .before .before .before in
     let now = here .match in
     let seen = here .before in
-    let next = seen .before .before .before .before in
+    let before = seen .before .before .levels-of2 in
+    let levels = seen .before .before .before .levels-of in
+    let next = seen .before .before .before .before .before in
     let l = next .before .before .loop in
     let a = next .before .before .before .before .before .before .before .before .before .args in
-    let w : Turned (seen .edge-of .result) (a .part) (a .model .pins) (i2cOf (levelsOf (l .last)) (l .pulling) (l .buffer) (l .phase)) (seen .before .before .levels-of .result) (l .memory) (now .pulling) (now .buffer) (now .phase) (now .memory) =
+    let w : Turned (seen .clock-first .result) (a .part) (a .model .pins) (i2cOf (levelsOf (l .last)) (l .pulling) (l .buffer) (l .phase)) (levels .result) (l .memory) (now .pulling) (now .buffer) (now .phase) (now .memory) =
     ⊎-elim
     (λ w. record { edge = Start; seen = w .1 .given .1; memory = w .3; pulling = w .4; buffer = w .5; phase = w .6 ∙ w .2 .ensures })
     (⊎-elim
@@ -125,7 +127,7 @@ loop-again c =
     (λ w. record { edge = Fall; seen = w .1 .given .1; memory = w .4; pulling = w .5 ∙ w .3 .ensures; buffer = w .6; phase = w .7 })
     (λ w. record { edge = Quiet; seen = w .1 .given .1; memory = w .2; pulling = w .3; buffer = w .4; phase = w .5 }))))
     (now .came) in
-    (l .inv .0, turned-length w ∙ l .inv .1, c .before .before .note-pull .kept .0 ∙ l .inv .2, turn (a .model) (l .last) (l .pulling) (l .buffer) (l .phase) (l .memory) (l .inv .3) (sym (next .before .next-is .ensures) ∙ next .if1 .taken) (a .part) (l .inv .0) (seen .before .before .before .first-sample .result) (seen .before .before .before .first-sample .ensures) (seen .before .levels-of2 .result) (seen .before .before .levels-of .result) (seen .before .levels-of2 .ensures) (seen .before .before .levels-of .ensures) (seen .edge-of .result) (seen .edge-of .ensures) (now .pulling) (now .buffer) (now .phase) (now .memory) _ w (c .before .before .note-pull .ensures))
+    (l .inv .0, turned-length w ∙ l .inv .1, c .before .before .note-pull .kept .0 ∙ l .inv .2, turn (a .model) (l .last) (l .pulling) (l .buffer) (l .phase) (l .memory) (l .inv .3) (sym (next .before .next-is .ensures) ∙ next .if1 .taken) (a .part) (l .inv .0) (seen .before .before .before .before .first-sample .result) (seen .before .before .before .before .first-sample .ensures) (before .result) (levels .result) (before .ensures) (levels .ensures) (seen .clock-first .result) (rw (before .ensures, levels .ensures) (seen .clock-first .ensures)) _ (now .pulling) (now .buffer) (now .phase) (now .memory) _ (seen .before .flag-after .ensures) w (c .before .before .note-pull .ensures))
 
 -- ---- at the end nothing is left
 
@@ -146,6 +148,7 @@ i2c-samples-spec =
     loop-holds
     next-is-requires
     first-sample-requires
+    (λ c κs. search needs)
     (λ c κs. search needs)
     (λ c κs. search needs)
     (λ c κs. search needs)

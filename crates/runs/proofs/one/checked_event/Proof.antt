@@ -13,7 +13,7 @@ returns c =
 
 returns-2 : tie.Need-returns-2
 returns-2 c =
-    let call = c .before .before .before .before in
+    let call = c .before .before .before .before .before in
     let start = call .before .before .before .before .before .before in
     let a = start .args in
     let e = call .replay-checked .ensures in

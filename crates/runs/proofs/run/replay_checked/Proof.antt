@@ -21,12 +21,12 @@ use Rattle.runs.proofs.run.replay_checked.Statement.{statement}
 use Rattle.runs.proofs.run.replay_checked.Tie as tie
 
 abbrev Inv-loop : tie.InvT-loop
-Inv-loop trace quota memory₀ answers₀ part state₀ at₀ count₀ memory answers state at count =
+Inv-loop trace quota memory₀ answers₀ part state₀ at₀ count₀ flag₀ memory answers state at count flag =
     (count ≤ quota) × (at ≤ length trace) × Sound state memory × (part ≡ partOf (state .part)) × (length memory ≡ length memory₀) × (length answers ≡ length answers₀)
-    × (final count at answers (loopOf (quota - count) (drop at trace) state memory) ≡ finalOf (ranOf (loopOf quota trace state₀ memory₀)) (loopOf quota trace state₀ memory₀ .memory) (sets answers₀ 0 (loopOf quota trace state₀ memory₀ .answers)))
+    × (final (length trace) flag count at answers (loopOf (quota - count) (drop at trace) state memory) ≡ finalOf (ranOf (loopOf quota trace state₀ memory₀)) (loopOf quota trace state₀ memory₀ .memory) (sets answers₀ 0 (loopOf quota trace state₀ memory₀ .answers)))
 
 abbrev μ-loop : tie.MeasureT-loop
-μ-loop trace quota memory₀ answers₀ part state₀ at₀ count₀ memory answers state at count = quota - count
+μ-loop trace quota memory₀ answers₀ part state₀ at₀ count₀ flag₀ memory answers state at count flag = quota - count
 
 part-of-requires : tie.Need-part-of-requires Inv-loop μ-loop
 part-of-requires c κs =
@@ -37,7 +37,7 @@ loop-holds : tie.Need-loop-holds Inv-loop μ-loop
 loop-holds c =
     let start = c .before .before .before .before .before in
     let a = start .args in
-    (search needs, search needs, start .pre, c .part-of .ensures, refl, refl, rw sub-zero (final-start (a .answers .now) (loopOf (a .quota) (a .trace .now) (a .model) (a .memory .now))))
+    (search needs, search needs, start .pre, c .part-of .ensures, refl, refl, rw sub-zero (final-start (length (a .trace .now)) (a .answers .now) (loopOf (a .quota) (a .trace .now) (a .model) (a .memory .now))))
 
 samples-requires : tie.Need-samples-requires Inv-loop μ-loop
 samples-requires c κs = let i = c .before .before .before .loop .inv in (i .3, i .2, i .1)
@@ -45,10 +45,10 @@ samples-requires c κs = let i = c .before .before .before .loop .inv in (i .3, 
 -- ---- no quota, or the end of the trace
 
 same-length : tie.Need-same-length Inv-loop μ-loop
-same-length c = let turn = c .before .before .before .before .before .before .before in turn .samples .kept .1 .1 .1 .1 .1 .1 .0 ∙ turn .before .before .before .before .loop .inv .4
+same-length c = let turn = c .before .before .before .before .before .before .before in turn .samples .kept .1 .1 .1 .1 .1 .1 .1 .0 ∙ turn .before .before .before .before .loop .inv .4
 
 same-length-2 : tie.Need-same-length-2 Inv-loop μ-loop
-same-length-2 c = let turn = c .before .before .before .before .before .before .before in turn .samples .kept .1 .1 .1 .1 .1 .1 .1 .0 ∙ turn .before .before .before .before .loop .inv .5
+same-length-2 c = let turn = c .before .before .before .before .before .before .before in turn .samples .kept .1 .1 .1 .1 .1 .1 .1 .1 .0 ∙ turn .before .before .before .before .loop .inv .5
 
 returns : tie.Need-returns Inv-loop μ-loop
 returns c =
@@ -56,7 +56,7 @@ returns c =
     let l = turn .before .before .before .before .loop in
     let a = turn .before .before .before .before .before .before .before .before .before .before .args in
     let e = turn .samples .ensures in
-    let h = samples-here _ (a .trace .now) (a .quota) (l .count) (l .at) (l .state) (l .memory) (l .answers) _ (l .inv .2) (l .inv .3) (turn .before .before .before .loop-test .taken) (l .inv .1) (l .inv .6) _ _ _ (e .0) (e .1 .0) (e .1 .1) in
+    let h = samples-here _ (a .trace .now) (a .quota) (l .flag) (l .count) (l .at) (l .state) (l .memory) (l .answers) _ (l .inv .2) (l .inv .3) (turn .before .before .before .loop-test .taken) (l .inv .1) (l .inv .6) _ _ _ (e .0) (e .1 .0) (e .1 .1) in
     let f = three _ _ (used _ _ _ _ _ _ _ _ h (⊎-elim (λ w. inl (w .taken)) (λ w. inr (leb-true _ _ (w .1 .taken))) (c .before .if1 .came))) in
     (c .ended .ensures ∙ f .0, (f .1, f .2))
 
@@ -68,14 +68,14 @@ one-other-requires c κs =
     let l = turn .before .before .before .before .loop in
     let a = turn .before .before .before .before .before .before .before .before .before .before .args in
     let e = turn .samples .ensures in
-    let h = samples-here _ (a .trace .now) (a .quota) (l .count) (l .at) (l .state) (l .memory) (l .answers) _ (l .inv .2) (l .inv .3) (turn .before .before .before .loop-test .taken) (l .inv .1) (l .inv .6) _ _ _ (e .0) (e .1 .0) (e .1 .1) in
+    let h = samples-here _ (a .trace .now) (a .quota) (l .flag) (l .count) (l .at) (l .state) (l .memory) (l .answers) _ (l .inv .2) (l .inv .3) (turn .before .before .before .loop-test .taken) (l .inv .1) (l .inv .6) _ _ _ (e .0) (e .1 .0) (e .1 .1) in
     (h .part, h .within, here-other _ _ _ _ _ _ _ _ h (c .before .before .if1 .left))
 
 same-length-3 : tie.Need-same-length-3 Inv-loop μ-loop
-same-length-3 c = let turn = c .before .before .before .before .before .before .before .before .before .before .before .before .before .before .before in turn .samples .kept .1 .1 .1 .1 .1 .1 .0 ∙ turn .before .before .before .before .loop .inv .4
+same-length-3 c = let turn = c .before .before .before .before .before .before .before .before .before .before .before .before .before .before .before in turn .samples .kept .1 .1 .1 .1 .1 .1 .1 .0 ∙ turn .before .before .before .before .loop .inv .4
 
 same-length-4 : tie.Need-same-length-4 Inv-loop μ-loop
-same-length-4 c = let turn = c .before .before .before .before .before .before .before .before .before .before .before .before .before .before .before in c .before .before .before .before .before .before .one-other .kept .1 .1 .1 .1 .1 .0 ∙ turn .samples .kept .1 .1 .1 .1 .1 .1 .1 .0 ∙ turn .before .before .before .before .loop .inv .5
+same-length-4 c = let turn = c .before .before .before .before .before .before .before .before .before .before .before .before .before .before .before in c .before .before .before .before .before .before .one-other .kept .1 .1 .1 .1 .1 .0 ∙ turn .samples .kept .1 .1 .1 .1 .1 .1 .1 .1 .0 ∙ turn .before .before .before .before .loop .inv .5
 
 returns-2 : tie.Need-returns-2 Inv-loop μ-loop
 returns-2 c =
@@ -83,7 +83,7 @@ returns-2 c =
     let l = turn .before .before .before .before .loop in
     let a = turn .before .before .before .before .before .before .before .before .before .before .args in
     let e = turn .samples .ensures in
-    let h = samples-here _ (a .trace .now) (a .quota) (l .count) (l .at) (l .state) (l .memory) (l .answers) _ (l .inv .2) (l .inv .3) (turn .before .before .before .loop-test .taken) (l .inv .1) (l .inv .6) _ _ _ (e .0) (e .1 .0) (e .1 .1) in
+    let h = samples-here _ (a .trace .now) (a .quota) (l .flag) (l .count) (l .at) (l .state) (l .memory) (l .answers) _ (l .inv .2) (l .inv .3) (turn .before .before .before .loop-test .taken) (l .inv .1) (l .inv .6) _ _ _ (e .0) (e .1 .0) (e .1 .1) in
     let call = c .before .before .before .before .before .before in
     let x = call .one-other .ensures in
     let w = went _ _ _ _ _ _ _ _ h (call .before .before .before .if1 .left) (leb-false _ _ (call .before .before .if2 .left)) _ _ (x .0 _) (x .1 _) in
@@ -99,7 +99,7 @@ loop-less c =
     let l = turn .before .before .before .before .loop in
     let a = turn .before .before .before .before .before .before .before .before .before .before .args in
     let e = turn .samples .ensures in
-    let h = samples-here _ (a .trace .now) (a .quota) (l .count) (l .at) (l .state) (l .memory) (l .answers) _ (l .inv .2) (l .inv .3) (turn .before .before .before .loop-test .taken) (l .inv .1) (l .inv .6) _ _ _ (e .0) (e .1 .0) (e .1 .1) in
+    let h = samples-here _ (a .trace .now) (a .quota) (l .flag) (l .count) (l .at) (l .state) (l .memory) (l .answers) _ (l .inv .2) (l .inv .3) (turn .before .before .before .loop-test .taken) (l .inv .1) (l .inv .6) _ _ _ (e .0) (e .1 .0) (e .1 .1) in
     omega (arith, h .onward, c .before .before .before .before .before .before .before .before .if1 .left)
 
 loop-again : tie.Need-loop-again Inv-loop μ-loop
@@ -108,7 +108,7 @@ loop-again c =
     let l = turn .before .before .before .before .loop in
     let a = turn .before .before .before .before .before .before .before .before .before .before .args in
     let e = turn .samples .ensures in
-    let h = samples-here _ (a .trace .now) (a .quota) (l .count) (l .at) (l .state) (l .memory) (l .answers) _ (l .inv .2) (l .inv .3) (turn .before .before .before .loop-test .taken) (l .inv .1) (l .inv .6) _ _ _ (e .0) (e .1 .0) (e .1 .1) in
+    let h = samples-here _ (a .trace .now) (a .quota) (l .flag) (l .count) (l .at) (l .state) (l .memory) (l .answers) _ (l .inv .2) (l .inv .3) (turn .before .before .before .loop-test .taken) (l .inv .1) (l .inv .6) _ _ _ (e .0) (e .1 .0) (e .1 .1) in
     let call = c .before .before .before .before .before in
     let x = call .one-other .ensures in
     let w = went _ _ _ _ _ _ _ _ h (call .before .before .before .if1 .left) (leb-false _ _ (call .before .before .if2 .left)) _ _ (x .0 _) (x .1 _) in (
@@ -116,8 +116,8 @@ loop-again c =
       w .within,
       w .sound,
       w .part,
-      turn .samples .kept .1 .1 .1 .1 .1 .1 .0 ∙ l .inv .4,
-      call .one-other .kept .1 .1 .1 .1 .1 .0 ∙ turn .samples .kept .1 .1 .1 .1 .1 .1 .1 .0 ∙ l .inv .5,
+      turn .samples .kept .1 .1 .1 .1 .1 .1 .1 .0 ∙ l .inv .4,
+      call .one-other .kept .1 .1 .1 .1 .1 .0 ∙ turn .samples .kept .1 .1 .1 .1 .1 .1 .1 .1 .0 ∙ l .inv .5,
       w .left (c .if3 .left),
     )
 
@@ -132,7 +132,7 @@ same-length-6 c = c .before .before .loop .inv .5
 returns-3 : tie.Need-returns-3 Inv-loop μ-loop
 returns-3 c =
     let l = c .before .before .loop in
-    let f = three _ _ (sym (left-used _ _ _ _ _ _ _ (c .before .loop-test .left)) ∙ l .inv .6) in
+    let f = three _ _ (sym (left-used _ _ _ _ _ _ _ _ (l .inv .1) (c .before .loop-test .left)) ∙ l .inv .6) in
     (c .ended3 .ensures ∙ f .0, (f .1, f .2))
 
 pub replay-checked-spec : {M : Type 1} → statement M

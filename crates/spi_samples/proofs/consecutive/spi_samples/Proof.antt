@@ -15,16 +15,17 @@ use Rattle.spi.specs.Show.{answerAt}
 use Rattle.samples.specs.Samples.{samplesOf, spiOf}
 use Rattle.samples.proofs.SamplesLaws.{end, three, more, room, Going, stops}
 use Rattle.spi_samples.proofs.SpiLaws.{spiModel, same-model, ready, Turned, turned-length, turn}
+use Rattle.spi_samples.proofs.SteadyLaws.{Seen, clock-seen, quiet-seen}
 use Rattle.spi_samples.proofs.consecutive.spi_samples.Statement.{statement}
 use Rattle.spi_samples.proofs.consecutive.spi_samples.Tie as tie
 
 abbrev Inv-loop : tie.InvT-loop
-Inv-loop part model trace quota first start memory₀ answers₀ status₀ last₀ asleep₀ shown₀ phase₀ count₀ offset₀ memory answers status last asleep shown phase count offset =
+Inv-loop part model trace quota first start earlier memory₀ answers₀ status₀ last₀ asleep₀ shown₀ phase₀ count₀ offset₀ flag₀ memory answers status last asleep shown phase count offset flag =
     (part ≡ partOf (model .part)) × (length memory ≡ length memory₀) × (length answers ≡ length answers₀)
-    × Going trace quota (end first start answers₀ (samplesOf (quota - first) (drop start trace) model memory₀)) (spiModel model status last asleep shown phase) count offset memory answers
+    × Going trace quota (end (length trace) earlier first start answers₀ (samplesOf (quota - first) (drop start trace) model memory₀)) (spiModel model status last asleep shown phase) flag count offset memory answers
 
 abbrev μ-loop : tie.MeasureT-loop
-μ-loop part model trace quota first start memory₀ answers₀ status₀ last₀ asleep₀ shown₀ phase₀ count₀ offset₀ memory answers status last asleep shown phase count offset =
+μ-loop part model trace quota first start earlier memory₀ answers₀ status₀ last₀ asleep₀ shown₀ phase₀ count₀ offset₀ flag₀ memory answers status last asleep shown phase count offset flag =
     quota - count
 
 loop-holds : tie.Need-loop-holds Inv-loop μ-loop
@@ -47,21 +48,21 @@ first-sample-requires c κs =
 
 add-count : tie.Need-add-count Inv-loop μ-loop
 add-count c =
-    let next = c .before .before .before .before .before .before .before .before .before in
+    let next = c .before .before .before .before .before .before .before .before .before .before in
     let l = next .before .before .loop in
     let start = next .before .before .before .before .before .before .before .before in
     omega (arith, more 32 (answerNumber (answerAt (levelsOf (l .last)) (l .shown))) (start .args .quota) (l .count) (drop (l .offset) (start .args .trace .now)) (sym (next .before .next-is .ensures) ∙ next .if1 .taken), start .fits .quota)
 
 add-offset : tie.Need-add-offset Inv-loop μ-loop
 add-offset c =
-    let next = c .before .before .before .before .before .before .before .before .before in
+    let next = c .before .before .before .before .before .before .before .before .before .before in
     let l = next .before .before .loop in
     let start = next .before .before .before .before .before .before .before .before in
     omega (arith, room 32 (answerNumber (answerAt (levelsOf (l .last)) (l .shown))) (start .args .quota) (l .count) (l .offset) (start .args .trace .now) (sym (next .before .next-is .ensures) ∙ next .if1 .taken), start .good .1 .1 .1 .0 .0)
 
 loop-less : tie.Need-loop-less Inv-loop μ-loop
 loop-less c =
-    let next = c .before .before .before .before .before .before .before .before .before in
+    let next = c .before .before .before .before .before .before .before .before .before .before in
     let l = next .before .before .loop in
     let a = next .before .before .before .before .before .before .before .before .args in
     omega (arith, more 32 (answerNumber (answerAt (levelsOf (l .last)) (l .shown))) (a .quota) (l .count) (drop (l .offset) (a .trace .now)) (sym (next .before .next-is .ensures) ∙ next .if1 .taken))
@@ -70,15 +71,15 @@ loop-less c =
 
 rise-requires : tie.Need-rise-requires Inv-loop μ-loop
 rise-requires c κs =
-    let l = c .before .before .before .before .before .before .before .before .before .before .loop in
-    let a = c .before .before .before .before .before .before .before .before .before .before .before .before .before .before .before .before .args in
+    let l = c .before .before .before .before .before .before .before .before .before .before .before .loop in
+    let a = c .before .before .before .before .before .before .before .before .before .before .before .before .before .before .before .before .before .args in
     let r = ready (a .model) (l .status) (l .last) (l .asleep) (l .shown) (l .phase) (l .memory) (l .inv .3 .sound) in
     rw (l .inv .0) (r .fit, r .inside, r .sized)
 
 after-fall-requires : tie.Need-after-fall-requires Inv-loop μ-loop
 after-fall-requires c κs =
-    let l = c .before .before .before .before .before .before .before .before .before .loop in
-    let a = c .before .before .before .before .before .before .before .before .before .before .before .before .before .before .before .args in
+    let l = c .before .before .before .before .before .before .before .before .before .before .loop in
+    let a = c .before .before .before .before .before .before .before .before .before .before .before .before .before .before .before .before .args in
     let r = ready (a .model) (l .status) (l .last) (l .asleep) (l .shown) (l .phase) (l .memory) (l .inv .3 .sound) in
     rw (l .inv .0) (r .sized, r .inside)
 
@@ -89,10 +90,20 @@ loop-again c =
     let here = c .before .before .before .before in
     let now = here .match in
     let seen = here .before in
-    let next = seen .before .before .before .before in
+    let before = seen .before .before .levels-of2 in
+    let levels = seen .before .before .before .levels-of in
+    let next = seen .before .before .before .before .before in
     let l = next .before .before .loop in
     let a = next .before .before .before .before .before .before .before .before .args in
-    let w : Turned (seen .edge-of .result) (a .part) (l .status) (spiOf (levelsOf (l .last)) (l .asleep) (l .shown) (l .phase)) (seen .before .before .levels-of .result) (l .memory) (now .status) (now .asleep) (now .shown) (now .phase) (now .memory) =
+    let tested = seen .before .steady .ensures in
+    let v : Seen (before .result) (levels .result) (length (a .trace .now)) (l .flag) (l .offset) (seen .if2 .edge) (seen .if2 .flag) =
+    ⊎-elim
+    (λ w. rw (w .4, w .5) (clock-seen (l .last) _ (before .result) (levels .result) (before .ensures) (levels .ensures) _ _ _ (sym tested ∙ w .0 .taken) (sym (w .1 .ensures) ∙ w .2 .taken) _ (w .3 .ensures)))
+    (⊎-elim
+    (λ w. rw (w .3, w .4) (quiet-seen (l .last) _ (before .result) (levels .result) (before .ensures) (levels .ensures) _ _ _ (sym tested ∙ w .0 .taken) (sym (w .1 .ensures) ∙ w .2 .left)))
+    (λ w. record { edge = w .4 ∙ w .2 .ensures; flag = w .3 ∙ w .1 .ensures }))
+    (seen .if2 .came) in
+    let w : Turned (seen .if2 .edge) (a .part) (l .status) (spiOf (levelsOf (l .last)) (l .asleep) (l .shown) (l .phase)) (levels .result) (l .memory) (now .status) (now .asleep) (now .shown) (now .phase) (now .memory) =
     ⊎-elim
     (λ w. record { edge = Select; seen = w .1 .given .1; memory = w .3; status = w .4; asleep = w .5; shown = w .6; phase = w .7 ∙ w .2 .ensures })
     (⊎-elim
@@ -103,7 +114,7 @@ loop-again c =
     (λ w. record { edge = Fall; seen = w .1 .given .1; memory = w .4; status = w .5; asleep = w .6; shown = w .7 ∙ w .3 .ensures; phase = w .8 })
     (λ w. record { edge = Quiet; seen = w .1 .given .1; memory = w .2; status = w .3; asleep = w .4; shown = w .5; phase = w .6 }))))
     (now .came) in
-    (l .inv .0, turned-length w ∙ l .inv .1, c .before .before .note-shown .kept .0 ∙ l .inv .2, turn (a .model) (l .status) (l .last) (l .asleep) (l .shown) (l .phase) (l .memory) (l .inv .3) (sym (next .before .next-is .ensures) ∙ next .if1 .taken) (a .part) (l .inv .0) (seen .before .before .before .first-sample .result) (seen .before .before .before .first-sample .ensures) (seen .before .levels-of2 .result) (seen .before .before .levels-of .result) (seen .before .levels-of2 .ensures) (seen .before .before .levels-of .ensures) (seen .edge-of .result) (seen .edge-of .ensures) (now .status) (now .asleep) (now .shown) (now .phase) (now .memory) _ w (c .before .before .note-shown .ensures))
+    (l .inv .0, turned-length w ∙ l .inv .1, c .before .before .note-shown .kept .0 ∙ l .inv .2, turn (a .model) (l .status) (l .last) (l .asleep) (l .shown) (l .phase) (l .memory) (l .inv .3) (sym (next .before .next-is .ensures) ∙ next .if1 .taken) (a .part) (l .inv .0) (seen .before .before .before .before .first-sample .result) (seen .before .before .before .before .first-sample .ensures) (before .result) (levels .result) (before .ensures) (levels .ensures) (seen .if2 .edge) (v .edge) _ (now .status) (now .asleep) (now .shown) (now .phase) (now .memory) _ (v .flag) w (c .before .before .note-shown .ensures))
 
 -- ---- at the end nothing is left
 
@@ -123,6 +134,10 @@ spi-samples-spec =
     loop-holds
     next-is-requires
     first-sample-requires
+    (λ c κs. search needs)
+    (λ c κs. search needs)
+    (λ c κs. search needs)
+    (λ c κs. search needs)
     (λ c κs. search needs)
     (λ c κs. search needs)
     (λ c κs. search needs)
