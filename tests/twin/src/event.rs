@@ -1,5 +1,5 @@
 //! The bytes of one event: its kind, its length and its fields. Numbers 4, 5, 6, 10 and 11 are told
-//! here, without the model.
+//! here, without the model. And what an event gives back that is accepted.
 
 use crate::part::{Part, Wires};
 
@@ -11,6 +11,24 @@ pub(crate) enum Event {
     Off,
     Sample(u8),
     Expect(u8),
+}
+
+/// What an accepted event gives back.
+#[derive(Clone, Copy)]
+pub(crate) struct Given {
+    pub answer: u8,
+    /// The warning: write protect moved within a selection, or between START and STOP.
+    pub flag: bool,
+}
+
+impl Given {
+    /// Only samples are warned of.
+    pub fn unflagged(answer: u8) -> Given {
+        Given {
+            answer,
+            flag: false,
+        }
+    }
 }
 
 /// Why an event is refused, and where a run says so.

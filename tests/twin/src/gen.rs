@@ -4,6 +4,7 @@
 mod bytes;
 mod fields;
 mod i2c;
+mod noise;
 mod spi;
 
 pub use bytes::{byte_case, selection_bytes, ByteCase};
@@ -62,6 +63,11 @@ pub struct Knobs {
     pub wrong: u32,
     /// That a clock comes with a glitch.
     pub glitch: u32,
+    /// That write protect moves with a sample, whatever else that changes. It is so from some block
+    /// on, so that the first warning may come late.
+    pub moved: u32,
+    /// That it moves with a fall or rise of CS#, or with a START or STOP, from that block on.
+    pub border: u32,
     /// That a sample is followed by a power cut, with power on after it.
     pub cut: u32,
     /// That a power on comes with a refused event before it or after it.
@@ -83,6 +89,8 @@ impl Default for Knobs {
             expect: 40,
             wrong: 0,
             glitch: 8,
+            moved: 0,
+            border: 0,
             cut: 1,
             stray: 0,
             fields: 0,
@@ -106,6 +114,8 @@ impl Knobs {
             expect: rng.pick(&[0, 20, 100]),
             wrong: rng.pick(&[0, 0, 0, 50]),
             glitch: rng.pick(&[0, 0, 3, 10, 60]),
+            moved: rng.pick(&[0, 0, 0, 2, 6, 30]),
+            border: rng.pick(&[0, 0, 0, 80, 400]),
             cut: rng.pick(&[0, 0, 1, 3]),
             stray: rng.pick(&[0, 10]),
             fields: rng.pick(&[0, 0, 200]),
@@ -153,7 +163,7 @@ pub fn trace(rng: &mut Rng, part: u32) -> Vec<u8> {
 /// A trace for a part made as the knobs say, over the first memory of the vectors.
 pub fn trace_with(rng: &mut Rng, part: u32, knobs: &Knobs) -> Vec<u8> {
     let mut out = if rng.chance(knobs.noise) {
-        noise(rng, part)
+        noise::noise(rng, part)
     } else {
         let mut bench = Bench::new(rng, part, knobs);
         bench.fill();
@@ -171,33 +181,6 @@ pub fn trace_with(rng: &mut Rng, part: u32, knobs: &Knobs) -> Vec<u8> {
 /// The part of a number; that of a refused making is part 0.
 fn known(part: u32) -> &'static Part {
     PARTS.get(part as usize).unwrap_or(&PARTS[0])
-}
-
-/// Wholly random bytes, or random events of the right form.
-fn noise(rng: &mut Rng, part: u32) -> Vec<u8> {
-    let known = known(part);
-    let length = rng.below(600);
-    if rng.chance(300) {
-        return (0..length).map(|_| rng.byte()).collect();
-    }
-    let mut out = match known.wires {
-        Wires::Spi => vec![1, rng.byte() & 31],
-        Wires::I2c => vec![2, rng.byte() & 7, 0, rng.byte() & 31, rng.byte()],
-    };
-    for _ in 0..length {
-        let sample = match known.wires {
-            // Mostly selected and not held.
-            Wires::Spi if rng.chance(950) => rng.byte() & 14 | spi_pin::HOLD,
-            _ => rng.byte() & known.max_sample(),
-        };
-        match rng.below(600) {
-            0 => out.push(rng.byte()),
-            1 => out.extend([rng.byte() % 7, rng.byte()]),
-            2 => out.extend([5, 2]),
-            _ => out.extend([4, sample]),
-        }
-    }
-    out
 }
 
 /// Truncation, a changed byte, a byte more or a byte less.
@@ -227,6 +210,8 @@ struct Bench<'a> {
     out: Vec<u8>,
     /// The sample last sent.
     wires: u8,
+    /// Whether write protect moves as the knobs say.
+    moving: bool,
 }
 
 impl<'a> Bench<'a> {
@@ -240,13 +225,17 @@ impl<'a> Bench<'a> {
             model,
             out: Vec::new(),
             wires: 0,
+            moving: false,
         }
     }
 
     /// Power on, then commands or transfers.
     fn fill(&mut self) {
         self.power_on();
-        for _ in 0..1 + self.rng.below(self.knobs.blocks) {
+        let blocks = 1 + self.rng.below(self.knobs.blocks);
+        let moving_from = self.rng.below(blocks);
+        for block in 0..blocks {
+            self.moving = block >= moving_from;
             match self.part.wires {
                 Wires::Spi => self.spi_block(),
                 Wires::I2c => self.i2c_block(),
@@ -304,10 +293,11 @@ impl<'a> Bench<'a> {
         }
     }
 
-    /// One sample; a right (or wrong) 05 or a power cut may follow.
+    /// One sample, with write protect as told or moved; a right (or wrong) 05 or a power cut may
+    /// follow.
     fn send(&mut self, wires: u8) {
-        self.wires = wires;
-        self.push(&[4, wires]);
+        self.wires = self.moved(wires, self.knobs.moved);
+        self.push(&[4, self.wires]);
         if self.rng.chance(self.knobs.expect) {
             let answer = self.model.answer();
             let wrong = self.rng.chance(self.knobs.wrong);
@@ -320,6 +310,22 @@ impl<'a> Bench<'a> {
         }
         if self.rng.chance(self.knobs.cut) {
             self.power_off_on();
+        }
+    }
+
+    /// A sample in which CS# falls or rises, or with START or STOP. Here it tells most whether
+    /// write protect moves with it.
+    fn send_border(&mut self, wires: u8) {
+        let wires = self.moved(wires, self.knobs.border);
+        self.send(wires);
+    }
+
+    /// The wires, in so many of a thousand cases with write protect moved.
+    fn moved(&mut self, wires: u8, per_mille: u32) -> u8 {
+        if self.moving && self.rng.chance(per_mille) {
+            wires ^ self.part.protect_pin()
+        } else {
+            wires
         }
     }
 

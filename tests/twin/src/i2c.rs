@@ -1,5 +1,6 @@
 //! "I2C rules": a part under power on the I2C bus.
 
+use crate::event::Given;
 use crate::part::i2c_pin::{SCL, SDA, WP};
 use crate::part::Part;
 use crate::{LOW, NOTHING};
@@ -11,6 +12,17 @@ enum Asked {
     Open,
     Write,
     Read,
+}
+
+/// What START and STOP have left the part in.
+#[derive(Clone, Debug, PartialEq, Eq)]
+enum Phase {
+    /// As at power on and after STOP.
+    Rest,
+    /// Between START and STOP too, but after another word or a master's high: the part ignores the
+    /// bus.
+    Deaf,
+    Span(Span),
 }
 
 /// The clocks since a START, nine to a byte.
@@ -39,8 +51,7 @@ pub struct I2c {
     /// The address buffer: its address, and whether that has been used.
     n: u32,
     used: bool,
-    /// None while the part rests or ignores the bus.
-    span: Option<Span>,
+    phase: Phase,
 }
 
 impl I2c {
@@ -53,7 +64,7 @@ impl I2c {
             pull: false,
             n: start,
             used: false,
-            span: None,
+            phase: Phase::Rest,
         }
     }
 
@@ -65,9 +76,12 @@ impl I2c {
         }
     }
 
-    /// The next sample: START or STOP with SCL 1 in both, bits on rises, the pull on falls.
-    pub fn sample(&mut self, new: u8, memory: &mut [u8]) -> u8 {
+    /// The next sample: START or STOP with SCL 1 in both, bits on rises, the pull on falls. WP is to
+    /// stand still unless the part rested before.
+    #[inline]
+    pub(crate) fn sample(&mut self, new: u8, memory: &mut [u8]) -> Given {
         let old = std::mem::replace(&mut self.old, new);
+        let flag = (old ^ new) & WP != 0 && self.phase != Phase::Rest;
         match (old & SCL != 0, new & SCL != 0) {
             (true, true) => match (self.line(old), self.line(new)) {
                 (true, false) => self.start(),
@@ -78,7 +92,10 @@ impl I2c {
             (true, false) => self.pull = self.pulls(memory),
             (false, false) => {}
         }
-        self.answer()
+        Given {
+            answer: self.answer(),
+            flag,
+        }
     }
 
     /// The line's level: high only if neither the others nor the part hold it low.
@@ -89,7 +106,7 @@ impl I2c {
     /// After START the part lets go of the line, forgets a byte under way and takes in a word.
     fn start(&mut self) {
         self.pull = false;
-        self.span = Some(Span {
+        self.phase = Phase::Span(Span {
             asked: Asked::Open,
             a16: 0,
             bytes: 0,
@@ -102,13 +119,15 @@ impl I2c {
     /// After STOP the part lets go of the line, forgets a byte under way and rests.
     fn stop(&mut self) {
         self.pull = false;
-        self.span = None;
+        self.phase = Phase::Rest;
     }
 
     /// A rise of SCL, with the line's level as its bit.
     fn rise(&mut self, new: u8, memory: &mut [u8]) {
         let line = self.line(new);
-        let Some(span) = &mut self.span else { return };
+        let Phase::Span(span) = &mut self.phase else {
+            return;
+        };
         if span.clocks == 8 {
             span.clocks = 0;
             span.bytes += 1;
@@ -125,7 +144,9 @@ impl I2c {
     /// The device address word: 1010, three bits (A2 A1 A0 on part 3, A2 A1 A16 on part 4), R/W. If
     /// it is not the part's, the part ignores the bus from here on.
     fn word(&mut self) {
-        let Some(span) = &mut self.span else { return };
+        let Phase::Span(span) = &mut self.phase else {
+            return;
+        };
         let word = span.byte;
         let (pins, a16) = if self.part.number == 3 {
             (word >> 1 & 7, 0)
@@ -133,7 +154,7 @@ impl I2c {
             (word >> 2 & 3, word >> 1 & 1)
         };
         if word >> 4 != 0b1010 || pins != self.pins {
-            self.span = None;
+            self.phase = Phase::Deaf;
             return;
         }
         span.a16 = u32::from(a16);
@@ -146,7 +167,9 @@ impl I2c {
 
     /// The ninth rise of a byte, of which `bytes` are whole with it.
     fn ninth_rise(&mut self, line: bool, wp: bool, memory: &mut [u8]) {
-        let Some(span) = &mut self.span else { return };
+        let Phase::Span(span) = &mut self.phase else {
+            return;
+        };
         match (span.asked, span.bytes) {
             // A read word. On part 4 its A16 takes the place of the buffer's bit 16, which shows
             // only here, since each read word replaces it and each address sets it anew.
@@ -170,7 +193,7 @@ impl I2c {
             // A byte read: with the line high here the master wants no more.
             (Asked::Read, _) => {
                 if line {
-                    self.span = None;
+                    self.phase = Phase::Deaf;
                 }
                 self.use_next();
             }
@@ -179,7 +202,9 @@ impl I2c {
 
     /// The part's pull after a SCL fall.
     fn pulls(&self, memory: &[u8]) -> bool {
-        let Some(span) = &self.span else { return false };
+        let Phase::Span(span) = &self.phase else {
+            return false;
+        };
         match (span.asked, span.bytes) {
             (Asked::Open, _) => false,
             (Asked::Write, _) | (Asked::Read, 0) => span.clocks == 8,

@@ -1,6 +1,7 @@
 //! "The ledger of demand 3": what memory and saved bits a cut leaves, told over selections and
 //! starts. It is fed the accepted events with their answers and calls nothing of the model; only
-//! the part table, the codes and the bits of a sample are shared.
+//! the part table, the codes and the bits of a sample are shared. By the same means it tells of each
+//! event whether it has the warning flag.
 
 use crate::part::{i2c_pin, spi_pin, Op, Part, Wires, PARTS};
 
@@ -79,8 +80,10 @@ impl Ledger {
         }
     }
 
-    /// An accepted event and its answer.
-    pub fn feed(&mut self, event: &[u8], answer: u8) {
+    /// An accepted event and its answer; true if write protect moved with it where it is to stand
+    /// still.
+    pub fn feed(&mut self, event: &[u8], answer: u8) -> bool {
+        let warned = self.warned(event);
         match (event, self.part.wires) {
             (&[1 | 2, sample, ..], wires) => {
                 self.since = Some(Since {
@@ -98,6 +101,23 @@ impl Ledger {
             (&[4, sample, ..], Wires::Spi) => self.spi_sample(sample),
             (&[4, sample, ..], Wires::I2c) => self.i2c_sample(sample, answer),
             _ => {}
+        }
+        warned
+    }
+
+    /// Whether an event that is yet to be entered has the flag: a sample with another level of write
+    /// protect than the last one had. On SPI both have CS# 0; the ledger need not have a selection
+    /// open, since there is none after SLEEP, nor with CS# 0 from power on. On I2C a START came, and
+    /// no STOP since.
+    fn warned(&self, event: &[u8]) -> bool {
+        let (&[4, new, ..], Some(since)) = (event, &self.since) else {
+            return false;
+        };
+        let moved = |wire: u8| since.sample & wire != new & wire;
+        let low = |wire: u8| since.sample & wire == 0 && new & wire == 0;
+        match self.part.wires {
+            Wires::Spi => low(spi_pin::CS) && moved(spi_pin::WP),
+            Wires::I2c => since.open.is_some() && moved(i2c_pin::WP),
         }
     }
 

@@ -2,7 +2,7 @@
 //! trace runs.
 
 use crate::bytes::Selected;
-use crate::event::{read, Event, Refused};
+use crate::event::{read, Event, Given, Refused};
 use crate::i2c::I2c;
 use crate::part::{Part, Wires, PARTS};
 use crate::spi::Spi;
@@ -36,6 +36,20 @@ pub struct Ran {
     /// The first kind byte not accepted, or the trace's length; for 6, 10 and 11 the first byte of
     /// the bad field.
     pub offset: u64,
+    /// The kind byte of the first accepted event with the warning flag, or the trace's length.
+    pub flag: u64,
+}
+
+impl Ran {
+    /// A run of a trace that is refused before its first event (1 to 3), or has none to run (0).
+    pub fn none(number: u8, trace: &[u8]) -> Ran {
+        Ran {
+            number,
+            count: 0,
+            offset: 0,
+            flag: trace.len() as u64,
+        }
+    }
 }
 
 impl Model {
@@ -86,20 +100,21 @@ impl Model {
         }
     }
 
-    /// One event from the front of the bytes: number and answer. A refused event leaves the model
-    /// and the memory as they were and answers 2.
-    pub fn event(&mut self, bytes: &[u8], memory: &mut [u8]) -> (u8, u8) {
+    /// One event from the front of the bytes: number, answer and warning flag. A refused event
+    /// leaves the model and the memory as they were, answers 2 and warns of nothing.
+    pub fn event(&mut self, bytes: &[u8], memory: &mut [u8]) -> (u8, u8, bool) {
         if memory.len() != self.part.size {
-            return (3, NOTHING);
+            return (3, NOTHING, false);
         }
         match self.step(bytes, memory) {
-            Ok((answer, _)) => (0, answer),
-            Err(refused) => (refused.number, NOTHING),
+            Ok((given, _)) => (0, given.answer, given.flag),
+            Err(refused) => (refused.number, NOTHING, false),
         }
     }
 
     /// A selection as bytes: 3, then 4 on I2C even without power, 12 unless a powered part has CS#
-    /// 1, and 13 for an output of another length. A refusal leaves all that was lent as it was.
+    /// 1, and 13 for an output of another length. A refusal leaves all that was lent as it was. It
+    /// warns of nothing, since WP# is the same from the fall of CS# to its rise.
     pub fn select(
         &mut self,
         wp: bool,
@@ -143,20 +158,19 @@ impl Model {
         memory: &mut [u8],
         mut each: impl FnMut(u8),
     ) -> Ran {
-        let mut ran = Ran {
-            number: 0,
-            count: 0,
-            offset: 0,
-        };
         if memory.len() != self.part.size {
-            ran.number = 3;
-            return ran;
+            return Ran::none(3, trace);
         }
+        let mut ran = Ran::none(0, trace);
+        let none = ran.flag;
         let mut rest = trace;
         while ran.count < quota && !rest.is_empty() {
             match self.step(rest, memory) {
-                Ok((answer, length)) => {
-                    each(answer);
+                Ok((given, length)) => {
+                    each(given.answer);
+                    if ran.flag == none && given.flag {
+                        ran.flag = (trace.len() - rest.len()) as u64;
+                    }
                     ran.count += 1;
                     rest = &rest[length..];
                 }
@@ -171,42 +185,42 @@ impl Model {
         ran
     }
 
-    /// The event in front: its answer and its length, or why it is refused. What is wrong with its
-    /// bytes comes before what the model has against it.
+    /// The event in front: what it gives and its length, or why it is refused. What is wrong with
+    /// its bytes comes before what the model has against it.
     #[inline]
-    fn step(&mut self, bytes: &[u8], memory: &mut [u8]) -> Result<(u8, usize), Refused> {
+    fn step(&mut self, bytes: &[u8], memory: &mut [u8]) -> Result<(Given, usize), Refused> {
         let (event, length) = read(self.part, bytes)?;
         match self.act(event, memory) {
-            Ok(answer) => Ok((answer, length)),
+            Ok(given) => Ok((given, length)),
             Err(number) => Err(Refused::event(number)),
         }
     }
 
     /// Numbers 7 to 9, then the event itself.
     #[inline]
-    fn act(&mut self, event: Event, memory: &mut [u8]) -> Result<u8, u8> {
+    fn act(&mut self, event: Event, memory: &mut [u8]) -> Result<Given, u8> {
         match (event, &mut self.power) {
             (Event::Sample(sample), Power::Spi(spi)) => Ok(spi.sample(sample, memory)),
             (Event::Sample(sample), Power::I2c(i2c)) => Ok(i2c.sample(sample, memory)),
             (Event::Off | Event::Sample(_) | Event::Expect(_), Power::Off) => Err(7),
             (Event::SpiOn(sample), Power::Off) => {
                 self.power = Power::Spi(Spi::power_on(self.part, self.saved, sample));
-                Ok(NOTHING)
+                Ok(Given::unflagged(NOTHING))
             }
             (Event::I2cOn(sample, start), Power::Off) => {
                 self.power = Power::I2c(I2c::power_on(self.part, self.pins, sample, start));
-                Ok(NOTHING)
+                Ok(Given::unflagged(NOTHING))
             }
             (Event::SpiOn(_) | Event::I2cOn(..), _) => Err(8),
             (Event::Off, _) => {
                 self.saved = if self.part.keeps_bits { self.bits() } else { 0 };
                 self.power = Power::Off;
-                Ok(NOTHING)
+                Ok(Given::unflagged(NOTHING))
             }
             (Event::Expect(value), _) => {
                 let answer = self.answer();
                 if value == answer {
-                    Ok(answer)
+                    Ok(Given::unflagged(answer))
                 } else {
                     Err(9)
                 }

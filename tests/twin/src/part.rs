@@ -169,6 +169,14 @@ impl Part {
         }
     }
 
+    /// The bit of write protect in a sample.
+    pub fn protect_pin(&self) -> u8 {
+        match self.wires {
+            Wires::Spi => spi_pin::WP,
+            Wires::I2c => i2c_pin::WP,
+        }
+    }
+
     /// Whether these bits (SRWD BP1 BP0) protect this address.
     pub fn protects(&self, bits: u8, address: usize) -> bool {
         address >= self.protected_from[usize::from(bits & 3)]

@@ -1,5 +1,6 @@
 //! "SPI rules": a part under power on the SPI bus.
 
+use crate::event::Given;
 use crate::part::spi_pin::{CS, HOLD, SCK, SI, WP};
 use crate::part::{Op, Part};
 use crate::{HIGH, LOW, NOTHING};
@@ -85,8 +86,10 @@ impl Spi {
         }
     }
 
-    /// The next sample. SCK counts while both samples have the part selected and not held.
-    pub fn sample(&mut self, new: u8, memory: &mut [u8]) -> u8 {
+    /// The next sample. SCK counts while both samples have the part selected and not held. WP# is
+    /// to stand still while both have it selected, held or not and whatever the part makes of it.
+    #[inline]
+    pub(crate) fn sample(&mut self, new: u8, memory: &mut [u8]) -> Given {
         let old = std::mem::replace(&mut self.old, new);
         let changed = old ^ new;
         if changed & CS != 0 {
@@ -99,9 +102,13 @@ impl Spi {
         } else if changed & SCK != 0 && new & CS == 0 && old & new & HOLD != 0 {
             self.clock_edge(new, memory);
         }
-        self.answer()
+        Given {
+            answer: self.answer(),
+            flag: changed & WP != 0 && (old | new) & CS == 0,
+        }
     }
 
+    #[inline]
     fn clock_edge(&mut self, new: u8, memory: &mut [u8]) {
         if self.selection.ignoring {
             return;
@@ -114,6 +121,7 @@ impl Spi {
     }
 
     /// A counted rise brings in one bit.
+    #[inline]
     fn rise(&mut self, si: bool, memory: &mut [u8]) {
         let selection = &mut self.selection;
         selection.rises += 1;
@@ -160,6 +168,7 @@ impl Spi {
 
     /// A counted fall shows the bit that the rises since the h-th have come to, from bit 7 of the
     /// first byte on.
+    #[inline]
     fn fall(&mut self, memory: &[u8]) {
         let selection = &self.selection;
         let Some(out) = selection.h.and_then(|h| selection.rises.checked_sub(h)) else {

@@ -1,19 +1,22 @@
 //! The line format of the vectors, and what the programs print.
 
 mod byte_line;
+mod figures;
 
 pub use byte_line::{ByteLine, OUTPUT_BEFORE};
+pub use figures::Figures;
 
 use crate::model::{Model, Ran};
 
-/// One line: part pins bits trace number count offset answers changed.
+/// One line: part pins bits trace number count offset answers changed, and on some the flag's
+/// offset.
 #[derive(Clone, Debug, PartialEq, Eq)]
 pub struct Line {
     pub part: u32,
     pub pins: u32,
     pub bits: u32,
     pub trace: Vec<u8>,
-    pub ran: Ran,
+    pub ran: Figures,
     pub answers: Vec<u8>,
     pub changed: Vec<(usize, u8)>,
 }
@@ -29,29 +32,56 @@ pub fn first_byte(address: usize) -> u8 {
 }
 
 impl Line {
-    /// Runs a trace with unlimited quota from the first memory. A refused making is the model of
-    /// part 0.
+    /// Runs a trace with unlimited quota from the first memory, for a line without the flag's
+    /// offset. A refused making is the model of part 0.
     pub fn play(part: u32, pins: u32, bits: u32, trace: &[u8]) -> Line {
-        let (_, mut model) = Model::make(part, pins, bits);
-        let mut memory = first_memory(model.part().size);
-        let mut answers = Vec::new();
-        let ran = model.run(trace, u64::MAX, &mut memory, &mut answers);
+        Line::unplayed(part, pins, bits, trace, false).again()
+    }
+
+    /// The same for a line with the flag's offset.
+    pub fn play_flagged(part: u32, pins: u32, bits: u32, trace: &[u8]) -> Line {
+        Line::unplayed(part, pins, bits, trace, true).again()
+    }
+
+    /// As if the run came to nothing.
+    fn unplayed(part: u32, pins: u32, bits: u32, trace: &[u8], flagged: bool) -> Line {
         Line {
             part,
             pins,
             bits,
             trace: trace.to_vec(),
-            ran,
-            answers,
-            changed: changed_cells(&memory),
+            ran: Figures::of(Ran::none(0, trace), flagged),
+            answers: Vec::new(),
+            changed: Vec::new(),
         }
     }
 
-    /// Reads a line; None if it isn't one.
+    /// The run of a line over again, with the columns that the line has.
+    pub fn again(&self) -> Line {
+        let (_, mut model) = Model::make(self.part, self.pins, self.bits);
+        let mut memory = first_memory(model.part().size);
+        let mut answers = Vec::new();
+        let ran = model.run(&self.trace, u64::MAX, &mut memory, &mut answers);
+        self.with(ran, answers, &memory)
+    }
+
+    /// The line's making and trace with what a run of them gave, in the columns that the line has.
+    pub fn with(&self, ran: Ran, answers: Vec<u8>, memory: &[u8]) -> Line {
+        Line {
+            ran: Figures::of(ran, self.ran.flag.is_some()),
+            answers,
+            changed: changed_cells(memory),
+            ..self.clone()
+        }
+    }
+
+    /// Reads a line, with the flag's offset or without; None if it isn't one.
     pub fn parse(line: &str) -> Option<Line> {
         let fields: Vec<&str> = line.split_whitespace().collect();
-        let &[part, pins, bits, trace, number, count, offset, answers, changed] = &fields[..]
-        else {
+        let &[part, pins, bits, trace, ref told @ ..] = &fields[..] else {
+            return None;
+        };
+        let &[number, count, offset, answers, changed, ref behind @ ..] = told else {
             return None;
         };
         Some(Line {
@@ -59,11 +89,7 @@ impl Line {
             pins: pins.parse().ok()?,
             bits: bits.parse().ok()?,
             trace: parse_hex(trace)?,
-            ran: Ran {
-                number: number.parse().ok()?,
-                count: count.parse().ok()?,
-                offset: offset.parse().ok()?,
-            },
+            ran: Figures::parse([number, count, offset], behind)?,
             answers: parse_answers(answers)?,
             changed: parse_changed(changed)?,
         })
@@ -75,20 +101,13 @@ impl std::fmt::Display for Line {
         let trace = hex(&self.trace);
         let answers: String = self.answers.iter().map(|&answer| letter(answer)).collect();
         let changed = write_changed(&self.changed);
-        write!(
-            to,
-            "{} {} {} {} ",
-            self.part,
-            self.pins,
-            self.bits,
-            or_dash(&trace)
-        )?;
-        write!(
-            to,
-            "{} {} {} ",
-            self.ran.number, self.ran.count, self.ran.offset
-        )?;
-        write!(to, "{} {}", or_dash(&answers), or_dash(&changed))
+        write!(to, "{} {} {} ", self.part, self.pins, self.bits)?;
+        write!(to, "{} {} ", or_dash(&trace), self.ran)?;
+        write!(to, "{} {}", or_dash(&answers), or_dash(&changed))?;
+        match self.ran.flag {
+            Some(flag) => write!(to, " {flag}"),
+            None => Ok(()),
+        }
     }
 }
 

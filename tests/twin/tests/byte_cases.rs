@@ -128,7 +128,7 @@ fn lists_of_selections() {
             assert_eq!((output, selected), expected);
             assert_eq!(bytes.model, pins.model);
             for event in spelled(wp, &input).chunks(2) {
-                ledger.feed(event, 2);
+                assert!(!ledger.feed(event, 2), "a selection as bytes has no flag");
             }
             assert!(bytes.memory == pins.memory && bytes.memory == ledger.memory());
             assert_eq!(bytes.model.bits(), ledger.bits());

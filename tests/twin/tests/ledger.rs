@@ -1,4 +1,5 @@
-//! Demand 3: after a cut at any event, memory and saved bits are those of the ledger.
+//! Demand 3: after a cut at any event, memory and saved bits are those of the ledger. It tells the
+//! same flags as the model.
 
 use twin::gen::{self, Case, Rng};
 use twin::text::first_memory;
@@ -17,13 +18,13 @@ fn compare_cut(model: &Model, memory: &mut [u8], ledger: &Ledger) {
 }
 
 /// Feeds the events of a trace, refused ones in between included; returns the events that changed
-/// the memory or the bits.
-fn follow(case: &Case, rng: &mut Rng) -> u64 {
+/// the memory or the bits, and those with the flag.
+fn follow(case: &Case, rng: &mut Rng) -> (u64, u64) {
     let (_, mut model) = Model::make(case.part, case.pins, case.bits);
     let mut memory = first_memory(model.part().size);
     let mut ledger = Ledger::begin(case.part, case.pins, case.bits, &memory);
     let mut rest = events(&case.trace).peekable();
-    let mut changes = 0;
+    let (mut changes, mut flags) = (0, 0);
     compare_cut(&model, &mut memory, &ledger);
     while let Some(&next) = rest.peek() {
         let junk = [rng.byte() % 8, rng.byte()];
@@ -32,30 +33,32 @@ fn follow(case: &Case, rng: &mut Rng) -> u64 {
             rest.next();
         }
         let before = model.clone();
-        let (number, answer) = model.event(event, &mut memory);
+        let (number, answer, flag) = model.event(event, &mut memory);
         if number == 0 {
             changes += u64::from(memory != ledger.memory() || model.bits() != ledger.bits());
-            ledger.feed(event, answer);
+            assert_eq!(ledger.feed(event, answer), flag, "the flag of {event:?}");
+            flags += u64::from(flag);
         } else {
-            assert_eq!((&model, answer), (&before, 2));
+            assert_eq!((&model, answer, flag), (&before, 2, false));
         }
         compare_cut(&model, &mut memory, &ledger);
     }
-    changes
+    (changes, flags)
 }
 
 /// So many generated traces of a part.
 fn follow_part(part: u32, traces: u64) {
     let mut rng = Rng::new(0xced6e5 + u64::from(part));
-    let mut changes = 0;
+    let (mut changes, mut flags) = (0, 0);
     for _ in 0..traces {
         let case = gen::case_of(&mut rng, part);
-        changes += follow(&case, &mut rng);
+        let (changed, flagged) = follow(&case, &mut rng);
+        changes += changed;
+        flags += flagged;
     }
-    assert!(
-        2 * changes > traces,
-        "only {changes} writes in {traces} traces"
-    );
+    let least = traces / 2;
+    assert!(changes > least, "{changes} writes in {traces} traces");
+    assert!(flags > least, "{flags} flags in {traces} traces");
 }
 
 #[test]

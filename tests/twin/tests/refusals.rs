@@ -6,12 +6,14 @@ use common::Bus;
 use twin::pins::spelled;
 use twin::{Model, Ran, PARTS};
 
-/// The number of an event on a clone; the state, the memory and the answer must show no trace.
+/// The number of an event on a clone; the state, the memory, the answer and the flag must show no
+/// trace.
 fn refused(model: &Model, event: &[u8], memory: &[u8]) -> u8 {
     let (mut after, mut cells) = (model.clone(), memory.to_vec());
-    let (number, answer) = after.event(event, &mut cells);
+    let (number, answer, flag) = after.event(event, &mut cells);
     if number != 0 {
-        assert_eq!((&after, &cells[..], answer), (model, memory, 2));
+        assert_eq!((&after, &cells[..]), (model, memory));
+        assert_eq!((answer, flag), (2, false));
     }
     number
 }
@@ -53,11 +55,12 @@ fn the_memory_comes_first() {
                 &[2, 0, 0, 0, 0],
                 &[2, 0, 255, 255, 255],
             ] {
-                assert_eq!(model.event(event, &mut memory), (3, 2));
+                assert_eq!(model.event(event, &mut memory), (3, 2, false));
                 let none = Ran {
                     number: 3,
                     count: 0,
                     offset: 0,
+                    flag: event.len() as u64,
                 };
                 assert_eq!(model.run(event, 0, &mut memory, &mut Vec::new()), none);
                 assert_eq!(model.run(event, 5, &mut memory, &mut Vec::new()), none);
@@ -74,9 +77,8 @@ type Refusal = (&'static [u8], u8, u64);
 /// behind the event change nothing.
 fn check(part: u32, accepted: &[&[u8]], refusals: &[Refusal]) {
     let mut bus = Bus::make(part, 0, 0);
-    accepted.iter().for_each(|event| {
-        bus.event(event);
-    });
+    let flags: Vec<bool> = accepted.iter().map(|event| bus.given(event).1).collect();
+    let flagged = flags.iter().position(|&flag| flag);
     let before = accepted.concat();
     for &(event, number, behind) in refusals {
         let about = format!("part {part}, {event:?} behind {accepted:?}");
@@ -94,6 +96,7 @@ fn check(part: u32, accepted: &[&[u8]], refusals: &[Refusal]) {
             number,
             count: accepted.len() as u64,
             offset: before.len() as u64 + behind,
+            flag: flagged.map_or(trace.len(), |at| accepted[..at].concat().len()) as u64,
         };
         assert_eq!(given, expected, "{about}");
         assert_eq!(
@@ -260,6 +263,7 @@ fn an_empty_event() {
             number: 0,
             count: 0,
             offset: 0,
+            flag: 0,
         };
         assert_eq!(model.run(&[], 9, &mut memory, &mut Vec::new()), end);
     }

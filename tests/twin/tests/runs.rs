@@ -1,8 +1,12 @@
-//! "Trace runs": quota, count and offset over generated traces, and where the offset shows.
+//! "Trace runs": quota, count, offset and flag's offset over generated traces, and where the offset
+//! shows.
 
+#[path = "common/added.rs"]
+mod added;
 #[path = "common/offset.rs"]
 mod offset;
 
+use added::added;
 use offset::behind_kind;
 use twin::gen::{self, Rng};
 use twin::text::first_memory;
@@ -23,7 +27,7 @@ fn assert_bad_fields(ended: Ended) {
 fn a_run_is_its_events_one_by_one() {
     let mut rng = Rng::new(11);
     let mut ended = Ended::default();
-    for _ in 0..1000 {
+    for _ in 0..3000 {
         let case = gen::case(&mut rng);
         let (_, mut model) = Model::make(case.part, case.pins, case.bits);
         let (mut alone, mut cells) = (model.clone(), first_memory(model.part().size));
@@ -31,8 +35,11 @@ fn a_run_is_its_events_one_by_one() {
         let mut answers = Vec::new();
         let ran = model.run(&case.trace, u64::MAX, &mut memory, &mut answers);
         let (mut at, mut rest) = (0, events(&case.trace));
+        let mut first = None;
         for &answer in &answers {
-            assert_eq!(alone.event(&case.trace[at..], &mut cells), (0, answer));
+            let (number, same, flag) = alone.event(&case.trace[at..], &mut cells);
+            assert_eq!((number, same), (0, answer));
+            first = first.or(flag.then_some(at));
             at += rest.next().expect("an answer is an event's").len();
         }
         let end = at == case.trace.len();
@@ -45,6 +52,7 @@ fn a_run_is_its_events_one_by_one() {
             number,
             count: answers.len() as u64,
             offset: at as u64 + behind_kind(number),
+            flag: first.unwrap_or(case.trace.len()) as u64,
         };
         assert_eq!(ran, expected);
         assert_eq!((number == 0, &alone, &cells), (end, &model, &memory));
@@ -58,7 +66,7 @@ fn a_run_is_its_events_one_by_one() {
 fn two_runs_add_up() {
     let mut rng = Rng::new(12);
     let mut ended = Ended::default();
-    for _ in 0..2000 {
+    for _ in 0..6000 {
         let case = gen::case(&mut rng);
         let (_, mut whole) = Model::make(case.part, case.pins, case.bits);
         let (mut split, mut cells) = (whole.clone(), first_memory(whole.part().size));
@@ -73,11 +81,7 @@ fn two_runs_add_up() {
         }
         let rest = &case.trace[first.offset as usize..];
         let second = split.run(rest, k, &mut cells, &mut two);
-        let sum = Ran {
-            number: second.number,
-            count: first.count + second.count,
-            offset: first.offset + second.offset,
-        };
+        let sum = added(first, second, &case.trace);
         assert_eq!((sum, one, whole, memory), (all, two, split, cells));
         assert!(all.count <= j + k);
         if first.count > 0 {

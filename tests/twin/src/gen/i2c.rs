@@ -4,11 +4,11 @@ use super::Bench;
 use crate::part::i2c_pin;
 
 impl Bench<'_> {
-    /// A transfer, sometimes with WP moved before it.
+    /// A transfer, sometimes with WP moved before it, more often to low, so that the part stores.
     pub(super) fn i2c_block(&mut self) {
-        if self.rng.chance(150) {
-            let high = self.rng.chance(300);
-            self.put(i2c_pin::WP, high);
+        let low = self.wires & i2c_pin::WP == 0;
+        if self.rng.chance(if low { 50 } else { 350 }) {
+            self.put(i2c_pin::WP, low);
         }
         let address = self.address();
         match self.rng.below(10) {
@@ -111,7 +111,7 @@ impl Bench<'_> {
             self.change(SDA, 0);
             self.change(SCL, 0);
         }
-        self.change(0, SDA);
+        self.send_border(self.wires & !SDA);
         if self.rng.chance(900) {
             self.change(0, SCL);
         }
@@ -125,7 +125,7 @@ impl Bench<'_> {
         }
         self.change(0, SDA);
         self.change(SCL, 0);
-        self.change(SDA, 0);
+        self.send_border(self.wires | SDA);
     }
 
     /// Eight bits and the ninth clock.

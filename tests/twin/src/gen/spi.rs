@@ -47,7 +47,7 @@ impl Bench<'_> {
             self.change(CS | HOLD, 0);
         }
         let clock = if self.rng.chance(800) { SCK } else { 0 };
-        self.change(HOLD, CS | clock);
+        self.send_border(self.wires & !(CS | clock) | HOLD);
         if self.rng.chance(20) {
             let short = self.rng.below(8);
             self.bits(u64::from(code) >> (8 - short), short);
@@ -64,7 +64,7 @@ impl Bench<'_> {
         } else {
             0
         };
-        self.send((self.wires ^ extra) | CS);
+        self.send_border((self.wires ^ extra) | CS);
         if self.rng.chance(100) {
             self.stray_clocks(CS, CS);
         }

@@ -26,10 +26,16 @@ impl Bus {
         }
     }
 
+    /// The answer of an event that must be accepted.
     pub fn event(&mut self, bytes: &[u8]) -> u8 {
-        let (number, answer) = self.model.event(bytes, &mut self.memory);
+        self.given(bytes).0
+    }
+
+    /// Its answer and its flag.
+    pub fn given(&mut self, bytes: &[u8]) -> (u8, bool) {
+        let (number, answer, flag) = self.model.event(bytes, &mut self.memory);
         assert_eq!(number, 0, "{bytes:02x?}");
-        answer
+        (answer, flag)
     }
 }
 

@@ -15,8 +15,11 @@ pub fn by_pins(
     let answers: Vec<u8> = trace
         .chunks(2)
         .map(|event| match model.event(event, memory) {
-            (0, answer) => answer,
-            (number, _) => panic!("{number} for {event:?}"),
+            (0, answer, flag) => {
+                assert!(!flag, "a selection as bytes has no flag");
+                answer
+            }
+            (number, ..) => panic!("{number} for {event:?}"),
         })
         .collect();
     assert_eq!(answers.len(), 2 + 16 * input.len());
