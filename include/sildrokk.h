@@ -22,6 +22,11 @@
  *   and HOLD# on SPI; SCL, SDA without the part's own pull, and WP on I2C. The other bits are 0.
  *   Answers: 0 low, 1 high, 2 nothing driven.
  *
+ *   A 04 sets the warning flag if it moves WP# or WP where that is to be held still: if the level is
+ *   not that of the sample before, which may be a power on's, and CS# is 0 in both (SPI), or a START
+ *   came before it and no STOP or power off since (I2C), whether the part listens or not. No other
+ *   kind of event sets the flag, and no refused one.
+ *
  * Each function returns 0, or the first of these numbers that holds, in this order:
  *
  *   1   no such part, or pins or saved bits that it cannot have
@@ -37,11 +42,12 @@
  *   12  a selection without power, or where CS# was not 1 in the last sample
  *   13  output_length is more or less than input_length
  *
- * 1 and 3 are tested first, whatever the trace and the quota; the memory is then untouched, and
- * both numbers of the result are 0. With 4 to 11 of an event the events before it stand. The 4 of a
- * selection, 12 and 13 are tested after the whole trace, in this order, and all of it stands.
- * With 2 these are eleven numbers, and two more of a selection; 2 is for a state that a host hands
- * in, and no function here takes one.
+ * 1 and 3 are tested first, whatever the trace and the quota; the memory is then untouched, and the
+ * numbers of the result are 0, but for a flag offset, which is trace_length. With 4 to 11 of an
+ * event the events before it stand, and so does their flag. The 4 of a selection, 12 and 13 are
+ * tested after the whole trace, in this order, and all of it stands. With 2 these are eleven
+ * numbers, and two more of a selection; 2 is for a state that a host hands in, and no function here
+ * takes one.
  *
  * The host's duties, which nothing here can test: each pointer is valid for its length and not
  * null, also where the length is 0; and no two of the lent buffers overlap. The functions keep
@@ -62,13 +68,17 @@ extern "C" {
  * Makes a model of part, address pins and saved bits, without power, and runs the trace on the
  * lent memory: at most `quota` events, up to the end of the trace or to one that is refused.
  *
- * A result of exactly 16 bytes gets two numbers of eight bytes, high byte first: the count, which
- * is how many events were accepted, and the offset. A result of another length is left as it is.
+ * A result of exactly 24 bytes gets three numbers of eight bytes, high byte first: the count, which
+ * is how many events were accepted, the offset, and the flag offset. A result of another length is
+ * left as it is.
  *
  * With 6, 10 and 11 the offset is that of the first byte of the bad field: with 6 the sample and
  * with 11 the expected answer, one after the kind byte; with 10 the first of the three bytes of the
  * start address, two after it. Else it is how many bytes the accepted events take, so that of the
  * next kind byte, or trace_length.
+ *
+ * The flag offset is that of the kind byte of the first accepted event with the flag, or
+ * trace_length if none has it.
  */
 uint8_t sildrokk_run(uint32_t part, uint32_t pins, uint32_t bits, uint64_t quota,
                      const uint8_t *trace, size_t trace_length,
@@ -97,7 +107,8 @@ uint8_t sildrokk_replay(uint32_t part, uint32_t pins, uint32_t bits, uint64_t qu
  *
  * A result of exactly 16 bytes gets two numbers as above: the index of the first driven byte and
  * how many are driven, or input_length and 0 if none is. If the call is refused both are 0, also
- * where an event of the trace is, and output is left as it is.
+ * where an event of the trace is, and output is left as it is. There is no flag offset, since WP#
+ * is still from the fall of CS# to its rise; flags of the trace are told by a run of it.
  *
  * The model ends with the call. What a selection leaves behind other than in memory, such as an
  * enable, is there for the next one if the trace of the next call has this one, as samples. That

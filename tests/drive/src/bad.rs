@@ -1,10 +1,14 @@
 //! Calls with something wrong or at its limit, each with what it is to give back and how many bytes
 //! of memory then differ from the first.
 
+mod behind;
+mod moving;
+
 use crate::call::Call;
-use crate::refused::{self, power_on, Refused};
+use crate::refused::power_on;
 use crate::script::Script;
 use crate::{Making, Ran};
+use moving::Moving;
 use twin::part::Wires;
 use twin::trace::{after, events};
 use twin::{Part, PARTS};
@@ -18,12 +22,13 @@ pub struct Bad {
 }
 
 impl Bad {
-    /// A call of which nothing is run.
+    /// A call of which nothing is run, so that nothing has the flag.
     fn unrun(call: Call, number: u8) -> Bad {
         let ran = Ran {
             number,
             count: 0,
             offset: 0,
+            flag: call.trace.len() as u64,
         };
         Bad {
             call,
@@ -32,19 +37,22 @@ impl Bad {
         }
     }
 
-    /// A call whose events are accepted up to its quota, and change so many bytes.
+    /// A call whose events are accepted up to its quota, none of them with the flag, and change so
+    /// many bytes.
     fn accepted(call: Call, changed: u64) -> Bad {
-        let ran = accepted(&call.trace, call.quota);
+        let ran = Ran {
+            number: 0,
+            count: call.quota.min(events(&call.trace).count() as u64),
+            offset: after(&call.trace, call.quota).0,
+            flag: call.trace.len() as u64,
+        };
         Bad { call, ran, changed }
     }
-}
 
-/// What a run of so many accepted events gives back.
-fn accepted(trace: &[u8], quota: u64) -> Ran {
-    Ran {
-        number: 0,
-        count: quota.min(events(trace).count() as u64),
-        offset: after(trace, quota).0,
+    /// The same call, in which an event has the flag.
+    fn flagged(self, flag: u64) -> Bad {
+        let ran = Ran { flag, ..self.ran };
+        Bad { ran, ..self }
     }
 }
 
@@ -55,7 +63,8 @@ pub fn calls() -> Vec<Bad> {
             makings(part),
             memories(part),
             traces(part),
-            refusals(part),
+            behind::refusals(part),
+            moving::calls(part),
             results(part),
             answers(part),
         ]
@@ -100,16 +109,29 @@ pub(crate) fn plain(part: u32) -> Making {
     Making::new(part, 0, 0)
 }
 
+/// Calls that change memory or move WP, or have nothing to do: by their quota, or by their trace.
+fn any_calls(part: &Part) -> [Call; 4] {
+    let good = storing(part);
+    let with = |trace| Call {
+        trace,
+        ..good.clone()
+    };
+    let moves = with(Moving::new(part).trace);
+    [good.stopped(0), with(Vec::new()), moves, good]
+}
+
 /// Parts out of range, 256 among them, which cut to a byte would be part 0.
 pub(crate) const NO_PARTS: [u32; 8] = [5, 6, 255, 256, 257, 1 << 16, 1 << 31, u32::MAX];
 
 fn parts() -> Vec<Bad> {
-    let good = storing(&PARTS[0]);
-    let with = |part| Call {
-        making: plain(part),
-        ..good.clone()
+    let with = |part| {
+        any_calls(&PARTS[0]).map(|call| Call {
+            making: plain(part),
+            ..call
+        })
     };
-    NO_PARTS.map(|part| Bad::unrun(with(part), 1)).into()
+    let bad = NO_PARTS.into_iter().flat_map(with);
+    bad.map(|call| Bad::unrun(call, 1)).collect()
 }
 
 /// Pins and bits out of range, 256 among them.
@@ -128,35 +150,26 @@ pub(crate) fn no_sizes(part: &Part) -> Vec<usize> {
     all.filter(|&it| it != part.size).collect()
 }
 
-/// 1 comes before 3, whatever the memory.
+/// 1 comes before 3, whatever the memory, the trace and the quota.
 fn makings(part: &Part) -> Vec<Bad> {
-    let good = storing(part);
-    let both = |making| {
-        [part.size, 0].map(|memory| Call {
-            making,
-            memory,
-            ..good.clone()
-        })
+    let each = |making| {
+        let with = move |memory| {
+            any_calls(part).map(|call| Call {
+                making,
+                memory,
+                ..call
+            })
+        };
+        [part.size, 0].into_iter().flat_map(with)
     };
-    let bad = no_makings(part).into_iter().flat_map(both);
+    let bad = no_makings(part).into_iter().flat_map(each);
     bad.map(|call| Bad::unrun(call, 1)).collect()
 }
 
-/// Memories of another length, also with nothing to run.
+/// Memories of another length, whatever the trace and the quota.
 fn memories(part: &Part) -> Vec<Bad> {
-    let good = storing(part);
-    let each = |memory| {
-        let call = Call {
-            memory,
-            ..good.clone()
-        };
-        let nothing = Call {
-            trace: Vec::new(),
-            ..call.clone()
-        };
-        [call.stopped(0), nothing, call]
-    };
-    let bad = no_sizes(part).into_iter().flat_map(each);
+    let with = |memory| any_calls(part).map(|call| Call { memory, ..call });
+    let bad = no_sizes(part).into_iter().flat_map(with);
     bad.map(|call| Bad::unrun(call, 3)).collect()
 }
 
@@ -179,61 +192,29 @@ fn traces(part: &Part) -> Vec<Bad> {
     ]
 }
 
-/// Each refused event without power and under it, at the front of the trace and after a stored byte.
-fn refusals(part: &Part) -> Vec<Bad> {
-    let stored = one_stored(part).into_trace();
-    let on = power_on(part, part.max_sample(), 0);
-    // Each with whether it leaves power on, and how many bytes it changes.
-    let befores = [
-        (vec![], false, 0),
-        (on, true, 0),
-        ([&stored[..], &[3]].concat(), false, 1),
-        (stored, true, 1),
-    ];
-    let each = |refused: Refused| {
-        let met = befores
-            .iter()
-            .filter(|(_, powered, _)| refused.when.holds(*powered));
-        met.flat_map(|(before, _, changed)| refusal(part, before, *changed, &refused))
-            .collect::<Vec<Bad>>()
-    };
-    refused::events(part).into_iter().flat_map(each).collect()
-}
+/// Lengths of a result: that of a run (24), that of a selection (16), and others. Any but its own is
+/// left, and the call is the same.
+pub(crate) const RESULTS: [usize; 10] = [0, 1, 8, 15, 16, 17, 23, 24, 25, 32];
 
-/// A refused event after others, which stand; with quotas that reach it, and one that does not. What
-/// follows it would store a byte. Nothing can follow one that is cut short.
-fn refusal(part: &Part, before: &[u8], changed: u64, refused: &Refused) -> [Bad; 3] {
-    let rest = match refused.number {
-        5 => Vec::new(),
-        _ => one_stored(part).into_trace(),
-    };
-    let trace = [before, &refused.event, &rest].concat();
-    let stands = accepted(before, u64::MAX);
-    let ran = Ran {
-        number: refused.number,
-        offset: stands.offset + refused.place() as u64,
-        ..stands
-    };
-    let call = Call::whole(plain(part.number), trace);
-    let reached = |call| Bad { call, ran, changed };
-    let unreached = Bad::accepted(call.stopped(stands.count), changed);
-    [
-        reached(call.stopped(stands.count + 1)),
-        unreached,
-        reached(call),
-    ]
-}
-
-/// Lengths of a result. Any but 16 is left, and the call is the same.
-pub(crate) const RESULTS: [usize; 6] = [0, 1, 15, 16, 17, 32];
-
+/// Each of them, also where nothing is run.
 fn results(part: &Part) -> Vec<Bad> {
-    let good = storing(part);
-    let with = |result| Call {
-        result,
-        ..good.clone()
+    let with = |result| {
+        let good = Call {
+            result,
+            ..storing(part)
+        };
+        let unmade = Call {
+            making: Making::new(part.number, part.max_pins + 1, 0),
+            ..good.clone()
+        };
+        let no_memory = Call {
+            memory: 0,
+            ..good.clone()
+        };
+        let unrun = [Bad::unrun(unmade, 1), Bad::unrun(no_memory, 3)];
+        unrun.into_iter().chain([Bad::accepted(good, 1)])
     };
-    RESULTS.map(|it| Bad::accepted(with(it), 1)).into()
+    RESULTS.into_iter().flat_map(with).collect()
 }
 
 /// Answers with every room up to one more than there are events.

@@ -2,7 +2,7 @@
 //! then with the proved build's own pins, and its memory with the ledger's.
 
 use crate::call::Call;
-use crate::outcome::{first_difference, result_of, Outcome, LEFT};
+use crate::outcome::{first_difference, result_of, Outcome, LEFT, OF_SELECTION};
 use crate::{LentBytes, Making, Selected};
 use std::fmt;
 use twin::gen::ByteCase;
@@ -45,7 +45,7 @@ impl ByteCall {
             output: input.len(),
             input,
             memory: part.size,
-            result: 16,
+            result: OF_SELECTION,
         }
     }
 
@@ -73,7 +73,8 @@ impl ByteCall {
     }
 
     /// The trace as a run of pin events, followed by those of the selection if it was taken: the
-    /// memory is the same, and so is what came back. How many bytes the selection stored.
+    /// memory is the same, and so is what came back. No sample of the selection has the flag, since its
+    /// WP# is still between the fall and the rise of CS#. How many bytes the selection stored.
     fn compare_pins(&self, selected: &Selected, ours: &Outcome) -> Result<u64, String> {
         let mut trace = self.trace.clone();
         if selected.number == 0 {
@@ -98,8 +99,12 @@ impl ByteCall {
         }
         let answers = left.shown.as_deref().unwrap_or_default();
         let before = events(&self.trace).count();
+        if agreed.flagged.is_some_and(|place| place >= before as u64) {
+            return Err(format!("{:?}, a flag in the selection", agreed.ran));
+        }
         self.compare_bits(&answers[before..], selected, ours)?;
-        Ok(agreed.stored - call.ledger(before as u64, answers).stored())
+        let stored_before = call.ledger(before as u64, answers).ledger.stored();
+        Ok(agreed.stored - stored_before)
     }
 
     /// What came back and the two figures, by the answers of the selection's samples.
@@ -148,7 +153,7 @@ impl ByteCall {
             number: selected.number,
             memory,
             shown: Some(output),
-            result: result_of(self.result, selected.first, selected.count),
+            result: result_of(self.result, &[selected.first, selected.count]),
         };
         (selected, outcome)
     }

@@ -1,14 +1,15 @@
 //! One call of the proved build and the same run of the twin, compared in all that a host can see;
-//! then its offset with what the bytes tell, and its memory with the ledger's.
+//! then its offsets with what the bytes tell, and its memory and flag offset with the ledger's.
 
 use crate::field::{self, bad_field};
-use crate::outcome::{first_difference, result_of, Outcome, LEFT};
+use crate::outcome::{first_difference, result_of, Outcome, LEFT, OF_RUN};
+use crate::told::Told;
 use crate::{Lent, Making, Ran};
 use std::fmt;
 use twin::gen::Case;
 use twin::text::{first_memory, hex};
 use twin::trace::{after, events};
-use twin::{Ledger, Model, PARTS};
+use twin::{Model, PARTS};
 
 /// A call, with the lengths of what it lends. The memory is the first memory of the vectors.
 #[derive(Clone, Debug)]
@@ -26,6 +27,8 @@ pub struct Call {
 #[derive(Clone, Copy, Debug, PartialEq, Eq)]
 pub struct Agreed {
     pub ran: Ran,
+    /// The first event with the flag, counted from 0.
+    pub flagged: Option<u64>,
     /// Bytes of memory that differ from the first.
     pub changed: u64,
     /// Bytes stored, where the call has room for all answers, so that the ledger can tell.
@@ -41,7 +44,7 @@ impl Call {
             quota: u64::MAX,
             memory: part.size,
             answers: Some(trace.len() + 1),
-            result: 16,
+            result: OF_RUN,
             trace,
         }
     }
@@ -74,12 +77,13 @@ impl Call {
         self.placed(&ran)?;
         let stored = match &ours.shown {
             Some(answers) if ran.count <= answers.len() as u64 => {
-                self.told(ran.count, answers, &ours.memory)?
+                self.told(&ran, answers, &ours.memory)?
             }
             _ => 0,
         };
         let agreed = Agreed {
             ran,
+            flagged: self.flagged(&ran)?,
             changed: ours.changed(),
             stored,
         };
@@ -101,24 +105,44 @@ impl Call {
         }
     }
 
-    /// What the ledger of the accepted events says was stored, if it has the same memory.
-    fn told(&self, count: u64, answers: &[u8], memory: &[u8]) -> Result<u64, String> {
-        let ledger = self.ledger(count, answers);
-        match first_difference("memory byte", memory, ledger.memory()) {
+    /// The event that the flag offset names, counted from 0; none if it is the trace's length. By the
+    /// bytes it can only be the kind byte of a sample that was accepted.
+    fn flagged(&self, ran: &Ran) -> Result<Option<u64>, String> {
+        if ran.flag == self.trace.len() as u64 {
+            return Ok(None);
+        }
+        let mut at = 0;
+        for (place, event) in (0..ran.count).zip(events(&self.trace)) {
+            if at == ran.flag && event[0] == 4 {
+                return Ok(Some(place));
+            }
+            at += event.len() as u64;
+        }
+        Err(format!("{ran:?}, and its flag is at no accepted sample"))
+    }
+
+    /// What the ledger of the accepted events says was stored, if it has the same memory and the same
+    /// flag offset.
+    fn told(&self, ran: &Ran, answers: &[u8], memory: &[u8]) -> Result<u64, String> {
+        let told = self.ledger(ran.count, answers);
+        let flag = told.flag(&self.trace);
+        if flag != ran.flag {
+            return Err(format!("{ran:?}, and the ledger has the flag at {flag}"));
+        }
+        match first_difference("memory byte", memory, told.ledger.memory()) {
             Some(difference) => Err(format!("{difference}, says the ledger")),
-            None => Ok(ledger.stored()),
+            None => Ok(told.ledger.stored()),
         }
     }
 
     /// The ledger of so many events, all accepted with these answers.
-    pub(crate) fn ledger(&self, count: u64, answers: &[u8]) -> Ledger {
-        let Making { part, pins, bits } = self.making;
-        let mut ledger = Ledger::begin(part, pins, bits, &first_memory(self.memory));
+    pub(crate) fn ledger(&self, count: u64, answers: &[u8]) -> Told {
+        let mut told = Told::begin(self.making, &first_memory(self.memory));
         let accepted = events(&self.trace).take(count as usize);
-        accepted
-            .zip(answers)
-            .for_each(|(event, &answer)| ledger.feed(event, answer));
-        ledger
+        for (event, &answer) in accepted.zip(answers) {
+            told.feed(event, answer);
+        }
+        told
     }
 
     fn proved(&self) -> Outcome {
@@ -139,18 +163,14 @@ impl Call {
         }
     }
 
-    /// A refused making runs nothing.
+    /// A refused making runs nothing, and so has no flag.
     fn twin(&self) -> (Ran, Outcome) {
         let Making { part, pins, bits } = self.making;
         let mut memory = first_memory(self.memory);
         let mut answers = Vec::new();
         let ran = match Model::make(part, pins, bits) {
             (0, mut model) => model.run(&self.trace, self.quota, &mut memory, &mut answers),
-            (number, _) => Ran {
-                number,
-                count: 0,
-                offset: 0,
-            },
+            (number, _) => Ran::none(number, &self.trace),
         };
         let outcome = Outcome {
             number: ran.number,
@@ -159,7 +179,7 @@ impl Call {
                 answers.resize(length, LEFT);
                 answers
             }),
-            result: result_of(self.result, ran.count, ran.offset),
+            result: result_of(self.result, &[ran.count, ran.offset, ran.flag]),
         };
         (ran, outcome)
     }

@@ -9,12 +9,15 @@ pub mod bad_bytes;
 pub mod byte_call;
 pub mod call;
 pub mod field;
+pub mod flags;
 pub mod more;
 mod outcome;
+mod quota;
 pub mod refused;
 pub mod renumber;
 pub mod script;
 pub mod tally;
+pub mod told;
 
 pub use archive::{call, call_bytes, Lent, LentBytes};
 pub use twin::{Ran, Selected};
@@ -48,19 +51,20 @@ pub fn run(
     memory: &mut [u8],
     answers: Option<&mut [u8]>,
 ) -> Ran {
-    let mut result = NO_RESULT;
+    let mut result = [UNWRITTEN; 3];
     let lent = Lent {
         trace,
         memory,
         answers,
-        result: &mut result,
+        result: result.as_flattened_mut(),
     };
     let number = call(making, quota, lent);
-    let (count, offset) = two_numbers(result);
+    let [count, offset, flag] = result.map(u64::from_be_bytes);
     Ran {
         number,
         count,
         offset,
+        flag,
     }
 }
 
@@ -73,16 +77,16 @@ pub fn select(
     output: &mut [u8],
     memory: &mut [u8],
 ) -> Selected {
-    let mut result = NO_RESULT;
+    let mut result = [UNWRITTEN; 2];
     let lent = LentBytes {
         trace,
         input,
         output,
         memory,
-        result: &mut result,
+        result: result.as_flattened_mut(),
     };
     let number = call_bytes(making, wp, lent);
-    let (first, count) = two_numbers(result);
+    let [first, count] = result.map(u64::from_be_bytes);
     Selected {
         number,
         first,
@@ -90,11 +94,6 @@ pub fn select(
     }
 }
 
-/// Not zeros, so that a result that isn't written is seen.
-const NO_RESULT: [u8; 16] = [0xff; 16];
-
-/// The two numbers of a result, high byte first.
-fn two_numbers(result: [u8; 16]) -> (u64, u64) {
-    let both = u128::from_be_bytes(result);
-    ((both >> 64) as u64, both as u64)
-}
+/// The eight bytes of a number in a result before the call: not zeros, so that one that isn't written
+/// is seen.
+const UNWRITTEN: [u8; 8] = [0xff; 8];

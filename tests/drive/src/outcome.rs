@@ -46,10 +46,16 @@ pub fn first_difference(what: &str, ours: &[u8], theirs: &[u8]) -> Option<String
     Some(format!("{what} {at:#x} is {one:02x} and not {two:02x}"))
 }
 
-/// Two numbers, most significant byte first, if the result has just the room for them.
-pub fn result_of(length: usize, one: u64, two: u64) -> Vec<u8> {
-    if length == 16 {
-        [one.to_be_bytes(), two.to_be_bytes()].concat()
+/// The bytes of a result that a run fills: count, offset and flag offset.
+pub const OF_RUN: usize = 24;
+
+/// Those of one that a selection as bytes fills: the first driven byte and how many are driven.
+pub const OF_SELECTION: usize = 16;
+
+/// Numbers of eight bytes, most significant first, if the result has just the room for them.
+pub fn result_of(length: usize, numbers: &[u64]) -> Vec<u8> {
+    if length == 8 * numbers.len() {
+        numbers.iter().flat_map(|it| it.to_be_bytes()).collect()
     } else {
         vec![LEFT; length]
     }

@@ -56,7 +56,8 @@ impl Script {
         self.event(&[3]);
     }
 
-    fn sample(&mut self, wires: u8) -> usize {
+    /// One sample, with the other wires as they are; its place.
+    pub fn sample(&mut self, wires: u8) -> usize {
         self.event(&[4, wires | self.others])
     }
 }

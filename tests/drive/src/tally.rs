@@ -15,6 +15,8 @@ pub struct Tally {
     pub accepted: u64,
     /// Accepted events that stored a byte.
     pub stored: u64,
+    /// Traces with an accepted event that has the flag.
+    pub flagged: u64,
     /// Traces by the number that ended them; 0 for those that ran to their end.
     pub numbers: [u64; 12],
 }
@@ -25,6 +27,7 @@ impl Tally {
         self.events += events(trace).count() as u64;
         self.accepted += agreed.ran.count;
         self.stored += agreed.stored;
+        self.flagged += u64::from(agreed.flagged.is_some());
         self.numbers[usize::from(agreed.ran.number)] += 1;
     }
 
@@ -33,6 +36,7 @@ impl Tally {
         self.events += other.events;
         self.accepted += other.accepted;
         self.stored += other.stored;
+        self.flagged += other.flagged;
         for (sum, more) in self.numbers.iter_mut().zip(other.numbers) {
             *sum += more;
         }
@@ -43,7 +47,7 @@ impl fmt::Display for Tally {
     fn fmt(&self, to: &mut fmt::Formatter<'_>) -> fmt::Result {
         let share = 100.0 * self.accepted as f64 / self.events.max(1) as f64;
         write!(to, "{:>9} {:>12} ", self.traces, self.accepted)?;
-        write!(to, "{share:>6.1}% {:>9}  ", self.stored)?;
+        write!(to, "{share:>6.1}% {:>9} {:>8}  ", self.stored, self.flagged)?;
         let refused = REFUSALS.map(|number| self.numbers[number]);
         write!(to, " {:>8}{}", self.numbers[0], columns(refused))
     }
@@ -60,7 +64,7 @@ pub fn refusals(part: &Part) -> impl Iterator<Item = usize> + '_ {
 
 /// The heads of the columns.
 pub fn head() -> String {
-    let left = "   traces     accepted   share    stored   ended: 0";
+    let left = "   traces     accepted   share    stored  flagged   ended: 0";
     left.to_string() + &columns(REFUSALS)
 }
 

@@ -1,9 +1,11 @@
 //! Demand 3 at the proved build's pins: power is cut after every single event of a trace, and
 //! before the first. What memory and saved bits are then is told by the ledger, by selections and
-//! starts; no model of the twin is asked. Then lists of selections as bytes, cut after each.
+//! starts; no model of the twin is asked. So is the flag offset, after each event. Then lists of
+//! selections as bytes, cut after each.
 
 use drive::script::{self, Script};
-use drive::Making;
+use drive::told::Told;
+use drive::{Making, Ran};
 use twin::gen::{self, Case, Rng};
 use twin::part::Wires;
 use twin::pins::spelled;
@@ -32,14 +34,13 @@ impl Bench {
         }
     }
 
-    /// Number and count; memory and answers stay to be looked at.
-    fn run(&mut self, trace: &[u8]) -> (u8, usize) {
+    /// What the run gives back; memory and answers stay to be looked at.
+    fn run(&mut self, trace: &[u8]) -> Ran {
         self.memory.copy_from_slice(&self.first);
         self.answers.clear();
         self.answers.resize(trace.len(), 0xff);
         let answers = Some(&mut self.answers[..]);
-        let ran = drive::run(self.making, u64::MAX, trace, &mut self.memory, answers);
-        (ran.number, ran.count as usize)
+        drive::run(self.making, u64::MAX, trace, &mut self.memory, answers)
     }
 
     /// A selection as bytes after the trace; the memory stays to be looked at.
@@ -51,9 +52,8 @@ impl Bench {
     }
 
     /// The ledger before any event.
-    fn ledger(&self) -> Ledger {
-        let Making { part, pins, bits } = self.making;
-        Ledger::begin(part, pins, bits, &self.first)
+    fn ledger(&self) -> Told {
+        Told::begin(self.making, &self.first)
     }
 
     /// Any address of the part.
@@ -62,13 +62,21 @@ impl Bench {
     }
 
     /// Cuts after the events of `front` and looks at what the ledger says is left: the whole
-    /// memory, the status register of a SPI part, and one byte as the bus shows it.
-    fn cut(&mut self, front: &[u8], powered: bool, ledger: &Ledger, address: usize) {
+    /// memory, the status register of a SPI part, and one byte as the bus shows it. The look holds WP
+    /// still, so the flag offset is that of `front`.
+    fn cut(&mut self, front: &[u8], powered: bool, told: &Told, address: usize) {
+        let ledger = &told.ledger;
         let before = events(front).count();
         let look = Look::after_cut(self.part, self.making.pins, powered, address);
         let whole = [front, look.script.trace()].concat();
         let ran = self.run(&whole);
-        assert_eq!(ran, (0, before + look.script.events()), "{whole:x?}");
+        let all = Ran {
+            number: 0,
+            count: (before + look.script.events()) as u64,
+            offset: whole.len() as u64,
+            flag: told.flag(&whole),
+        };
+        assert_eq!(ran, all, "{whole:x?}");
         assert!(self.memory == ledger.memory(), "memory: {whole:x?}");
         let shown = &self.answers[before..];
         let expected = (ledger.bits_after_cut(), ledger.memory()[address]);
@@ -138,24 +146,25 @@ fn read_word(part: &Part, pins: u32, address: usize) -> u8 {
     0xa1 | (place as u8) << 1
 }
 
-/// Cuts a trace after each of its accepted events; how often the ledger changed.
-fn follow(case: &Case, rng: &mut Rng) -> u64 {
+/// Cuts a trace after each of its accepted events; how often the ledger changed, and whether it has
+/// a flag.
+fn follow(case: &Case, rng: &mut Rng) -> (u64, bool) {
     let mut bench = Bench::new(Making::new(case.part, case.pins, case.bits));
-    let (_, count) = bench.run(&case.trace);
+    let count = bench.run(&case.trace).count as usize;
     let answers = bench.answers[..count].to_vec();
-    let mut ledger = bench.ledger();
+    let mut told = bench.ledger();
     let (mut at, mut powered, mut changes) = (0, false, 0);
-    bench.cut(&[], powered, &ledger, 0);
+    bench.cut(&[], powered, &told, 0);
     for (event, answer) in events(&case.trace).zip(answers) {
-        let before = ledger.clone();
-        ledger.feed(event, answer);
-        changes += changed(&before, &ledger).iter().sum::<u64>();
+        let before = told.ledger.clone();
+        told.feed(event, answer);
+        changes += changed(&before, &told.ledger).iter().sum::<u64>();
         powered = event[0] != 3;
         at += event.len();
         let address = bench.address(rng);
-        bench.cut(&case.trace[..at], powered, &ledger, address);
+        bench.cut(&case.trace[..at], powered, &told, address);
     }
-    changes
+    (changes, told.flag(&case.trace) < case.trace.len() as u64)
 }
 
 /// Whether the memory changed between the two, and whether the bits did.
@@ -170,9 +179,9 @@ fn changed(before: &Ledger, after: &Ledger) -> [u64; 2] {
 /// How often either changed.
 fn follow_list(making: Making, rng: &mut Rng) -> [u64; 2] {
     let mut bench = Bench::new(making);
-    let mut ledger = bench.ledger();
+    let mut told = bench.ledger();
     let mut trace = Script::spi().into_trace();
-    ledger.feed(&trace, twin::NOTHING);
+    told.feed(&trace, twin::NOTHING);
     let mut changes = [0, 0];
     for (wp, input) in list(making.part, rng) {
         assert_eq!(bench.select(&trace, wp, &input), 0, "{trace:x?} {input:x?}");
@@ -180,13 +189,14 @@ fn follow_list(making: Making, rng: &mut Rng) -> [u64; 2] {
         let count = events(&trace).count();
         trace.extend(spelled(wp, &input));
         bench.run(&trace);
-        let before = ledger.clone();
+        let before = told.ledger.clone();
         let its_own = events(&trace).zip(&bench.answers).skip(count);
-        its_own.for_each(|(event, &answer)| ledger.feed(event, answer));
+        its_own.for_each(|(event, &answer)| told.feed(event, answer));
+        let ledger = &told.ledger;
         assert!(by_bytes == ledger.memory(), "memory: {trace:x?} {input:x?}");
-        changes = added(changes, changed(&before, &ledger));
+        changes = added(changes, changed(&before, ledger));
         let address = bench.address(rng);
-        bench.cut(&trace, true, &ledger, address);
+        bench.cut(&trace, true, &told, address);
     }
     changes
 }
@@ -219,15 +229,19 @@ fn follow_lists(part: u32, lists: u64) {
     assert!(changes.iter().all(|&it| 4 * it > lists), "{changes:?}");
 }
 
-/// So many traces of a part, cut everywhere.
+/// So many traces of a part, cut everywhere. Many have a flag, and many have none.
 fn follow_part(part: u32, traces: u64) {
     let mut rng = Rng::new(0xc075 + u64::from(part));
-    let mut changes = 0;
+    let (mut changes, mut flags) = (0, 0);
     for _ in 0..traces {
         let case = gen::case_of(&mut rng, part);
-        changes += follow(&case, &mut rng);
+        let (changed, flagged) = follow(&case, &mut rng);
+        changes += changed;
+        flags += u64::from(flagged);
     }
     assert!(changes > traces, "only {changes} writes");
+    let fewer = flags.min(traces - flags);
+    assert!(4 * fewer > traces, "{flags} flags in {traces} traces");
 }
 
 #[test]

@@ -1,25 +1,24 @@
-//! Generated traces on the proved build and on the twin: number, answers, count, offset and the
-//! whole memory are equal, for the whole trace and for a run that a quota stops in it.
+//! Generated traces on the proved build and on the twin: number, answers, count, offset, flag offset
+//! and the whole memory are equal, for the whole trace and for runs that a quota stops in it, one of
+//! them just before the flagged event, one with it and one behind it.
 
 use drive::call::Call;
 use drive::tally::{refusals, Tally};
 use twin::gen::{self, Case, Knobs, Rng};
 use twin::PARTS;
 
-/// Both, or the trace at which they differ.
+/// Both, or the trace at which they differ. What a stopped run gives is also told by the whole one.
 fn compare(case: Case, rng: &mut Rng, tally: &mut Tally) {
     let whole = Call::of(case);
-    let agreed = compared(&whole);
+    let compared = whole.compare().and_then(|agreed| {
+        let drawn = rng.below(agreed.ran.count + 2);
+        whole.compare_stopped(&agreed, drawn).map(|_| agreed)
+    });
+    let agreed = compared.unwrap_or_else(|difference| panic!("{difference}: {whole}"));
     tally.add(&whole.trace, &agreed);
-    compared(&whole.stopped(rng.below(agreed.ran.count + 2)));
 }
 
-fn compared(call: &Call) -> drive::call::Agreed {
-    call.compare()
-        .unwrap_or_else(|difference| panic!("{difference}: {call}"))
-}
-
-/// Structured traces of a part, whose pins, bits, cuts, glitches and damage are drawn.
+/// Structured traces of a part, whose pins, bits, cuts, glitches, moves of WP and damage are drawn.
 fn structured(part: u32, traces: u64) {
     let mut rng = Rng::new(0xd1ff + u64::from(part));
     let mut tally = Tally::default();
@@ -29,6 +28,8 @@ fn structured(part: u32, traces: u64) {
     }
     assert!(tally.accepted > 300 * traces, "{tally:?}");
     assert!(2 * tally.stored > traces, "{tally:?}");
+    let unflagged = tally.traces - tally.flagged;
+    assert!(4 * tally.flagged.min(unflagged) > traces, "{tally:?}");
     let met = (1..tally.numbers.len()).filter(|&number| tally.numbers[number] > 0);
     assert!(met.eq(refusals(&PARTS[part as usize])), "{tally:?}");
 }

@@ -26,7 +26,8 @@ fn of_part(part: &Part) -> Vec<Bad> {
 }
 
 /// Each number is in the table: those of an event at the front of a trace, where 8 and 9 cannot be,
-/// and after a stored byte. Whether they and their offsets are right, `every_bad_call` tells.
+/// after a stored byte, and after an event with the flag. Whether they and their offsets are right,
+/// `every_bad_call` tells.
 #[test]
 fn the_table_has_each_number() {
     for part in &PARTS {
@@ -42,7 +43,13 @@ fn the_table_has_each_number() {
         assert_eq!(front, &of_events - &BTreeSet::from([8, 9]));
         let stored = numbers(|bad| bad.ran.number > 3 && bad.changed == 1);
         assert_eq!(stored, of_events);
+        let flagged = numbers(|bad| bad.ran.number > 3 && has_flag(bad));
+        assert_eq!(flagged, of_events);
     }
+}
+
+fn has_flag(bad: &Bad) -> bool {
+    bad.ran.flag < bad.call.trace.len() as u64
 }
 
 #[test]
@@ -97,7 +104,7 @@ fn the_selections_have_each_number_and_good_ones() {
     assert_eq!(numbers(false), on_i2c);
     let good = || calls.iter().filter(|bad| bad.number == 0);
     let agreed = || good().filter_map(|bad| bad.call.compare().ok());
-    assert!(agreed().filter(|it| it.stored == 3).count() >= 3 * 12);
-    assert!(agreed().filter(|it| it.selected.count == 4).count() >= 3 * 12);
-    assert!(good().filter(|bad| bad.call.input.is_empty()).count() >= 3 * 12);
+    assert!(agreed().filter(|it| it.stored == 3).count() >= 3 * 16);
+    assert!(agreed().filter(|it| it.selected.count == 4).count() >= 3 * 16);
+    assert!(good().filter(|bad| bad.call.input.is_empty()).count() >= 3 * 16);
 }

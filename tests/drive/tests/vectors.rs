@@ -1,16 +1,18 @@
 //! Every line of the vectors agrees with the proved build and with the twin: number, count,
-//! offset, answers and changed cells.
+//! offset, answers, changed cells and flag offset, which on lines without its column is the twin's.
 
-use drive::Making;
-use twin::text::{changed_cells, first_memory, Line};
-use twin::PARTS;
+use drive::call::Call;
+use drive::{Making, Ran};
+use twin::text::{first_memory, Line};
+use twin::{Model, PARTS};
 
 const BASE: &str = include_str!("../../vectors/base.txt");
 const FIELDS: &str = include_str!("../../vectors/fields.txt");
+const FLAGS: &str = include_str!("../../vectors/flags.txt");
 const MORE: &str = include_str!("../../vectors/more.txt");
 
-/// The line that the proved build gives for a line's making and trace.
-fn proved(line: &Line) -> Line {
+/// What the proved build gives for a line's making and trace, and the line that this makes.
+fn proved(line: &Line) -> (Ran, Line) {
     let making = Making::new(line.part, line.pins, line.bits);
     let mut memory = first_memory(PARTS[line.part as usize].size);
     let mut answers = vec![0xff; line.trace.len()];
@@ -23,39 +25,79 @@ fn proved(line: &Line) -> Line {
     );
     let written = answers.iter().take_while(|&&answer| answer != 0xff).count();
     answers.truncate(written);
-    Line {
-        ran,
-        answers,
-        changed: changed_cells(&memory),
-        ..line.clone()
-    }
+    (ran, line.with(ran, answers, &memory))
 }
 
-/// Checks every line; how many there are.
-fn check(text: &str) -> usize {
-    let rows = || text.lines().filter(|row| !row.starts_with('#'));
-    for row in rows() {
-        let line = Line::parse(row).unwrap_or_else(|| panic!("not a vector: {row}"));
-        let twin = Line::play(line.part, line.pins, line.bits, &line.trace);
-        assert_eq!(twin, line, "the twin differs");
-        assert_eq!(proved(&line), line, "the proved build differs");
+/// What the twin gives.
+fn twin(line: &Line) -> Ran {
+    let (_, mut model) = Model::make(line.part, line.pins, line.bits);
+    let mut memory = first_memory(model.part().size);
+    model.run_each(&line.trace, u64::MAX, &mut memory, |_| ())
+}
+
+/// What there is in a file: lines, and those of them whose run has a flag.
+#[derive(Debug, PartialEq, Eq)]
+struct Lines {
+    all: usize,
+    flagged: usize,
+}
+
+/// The lines of a text.
+fn parsed(text: &str) -> impl Iterator<Item = Line> + '_ {
+    let rows = text.lines().filter(|row| !row.starts_with('#'));
+    rows.map(|row| Line::parse(row).unwrap_or_else(|| panic!("not a vector: {row}")))
+}
+
+/// Checks every line of a text, which all have the flag's column or all have not.
+fn check(text: &str, flag_column: bool) -> Lines {
+    let mut lines = Lines { all: 0, flagged: 0 };
+    for line in parsed(text) {
+        assert_eq!(line.ran.flag.is_some(), flag_column, "{line}");
+        assert_eq!(line.again(), line, "the twin differs");
+        let (ran, same) = proved(&line);
+        assert_eq!(same, line, "the proved build differs");
+        assert_eq!(ran, twin(&line), "the two differ: {line}");
+        lines.all += 1;
+        lines.flagged += usize::from(ran.flag < line.trace.len() as u64);
     }
-    rows().count()
+    lines
 }
 
 #[test]
 fn base() {
-    assert_eq!(check(BASE), 500);
+    assert_eq!(check(BASE, false).all, 500);
 }
 
 #[test]
 fn fields() {
-    assert_eq!(check(FIELDS), 120);
+    assert_eq!(check(FIELDS, false).all, 120);
+}
+
+#[test]
+fn flags() {
+    let lines = check(FLAGS, true);
+    assert_eq!(lines.all, 120);
+    assert!(0 < lines.flagged && lines.flagged < 120, "{lines:?}");
+}
+
+/// The same lines once more with the ledger, and stopped around their flagged event and halfway.
+#[test]
+fn flags_by_ledger_and_quota() {
+    for line in parsed(FLAGS) {
+        let making = Making::new(line.part, line.pins, line.bits);
+        let call = Call::whole(making, line.trace);
+        let compared = call.compare().and_then(|agreed| {
+            let half = agreed.ran.count / 2;
+            call.compare_stopped(&agreed, half).map(|_| agreed)
+        });
+        let agreed = compared.unwrap_or_else(|difference| panic!("{difference}: {call}"));
+        assert_eq!(Some(agreed.ran.flag), line.ran.flag, "{call}");
+    }
 }
 
 #[test]
 fn more() {
-    assert_eq!(check(MORE), 65);
+    assert_eq!(check(MORE, false).all, 65);
 }
 
 /// The file is what its generator prints, so that neither is changed alone.

@@ -51,8 +51,8 @@ fn main() -> ExitCode {
     }
 }
 
-/// Each part in turn; each trace whole with its answers, then without them up to a quota. Then, on a
-/// SPI part, a selection as bytes.
+/// Each part in turn; each trace whole with its answers, then without them up to a quota, and up to
+/// those around its flagged event. Then, on a SPI part, a selection as bytes.
 fn soak(until: &Until, seed: u64) -> Result<(), String> {
     let mut rng = Rng::new(seed);
     let mut tallies: [Tally; PARTS.len()] = Default::default();
@@ -63,8 +63,9 @@ fn soak(until: &Until, seed: u64) -> Result<(), String> {
         for part in &PARTS {
             let whole = Call::of(case(&mut rng, part.number));
             let agreed = compared(&whole)?;
-            let stopped = whole.stopped(rng.below(agreed.ran.count + 2));
-            accepted += agreed.ran.count + compared(&stopped)?.ran.count;
+            let stopped = whole.compare_stopped(&agreed, rng.below(agreed.ran.count + 2));
+            let stopped = stopped.map_err(|difference| format!("{difference}: {whole}"))?;
+            accepted += agreed.ran.count + stopped;
             tallies[part.number as usize].add(&whole.trace, &agreed);
             if part.wires == Wires::Spi {
                 let call = ByteCall::of(gen::byte_case(&mut rng, part.number));

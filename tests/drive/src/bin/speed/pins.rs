@@ -5,7 +5,7 @@ use drive::script::{addressed, Script};
 use drive::{Making, Ran};
 use std::hint::black_box;
 use twin::gen::Rng;
-use twin::part::Wires;
+use twin::part::{i2c_pin, spi_pin, Wires};
 use twin::trace::events;
 use twin::{Model, PARTS};
 
@@ -16,6 +16,8 @@ struct Stream {
     name: &'static str,
     part: u32,
     trace: Vec<u8>,
+    /// Whether an event of it has the flag.
+    flagged: bool,
 }
 
 /// Prints the table; the ratio of each stream.
@@ -29,6 +31,8 @@ pub fn table(rounds: usize) -> Vec<f64> {
         i2c_read(3),
         random(0),
         random(3),
+        spi_flagged(0),
+        i2c_flagged(3),
         expected("SPI checked", spi_read(0)),
         expected("I2C checked", i2c_read(3)),
     ];
@@ -56,6 +60,7 @@ fn spi_write(part: u32) -> Stream {
         name: "SPI write",
         part,
         trace: script.into_trace(),
+        flagged: false,
     }
 }
 
@@ -67,6 +72,7 @@ fn spi_read(part: u32) -> Stream {
         name: "SPI read",
         part,
         trace: script.into_trace(),
+        flagged: false,
     }
 }
 
@@ -84,6 +90,7 @@ fn i2c_write(part: u32) -> Stream {
         name: "I2C write",
         part,
         trace: script.into_trace(),
+        flagged: false,
     }
 }
 
@@ -101,6 +108,47 @@ fn i2c_read(part: u32) -> Stream {
         name: "I2C read",
         part,
         trace: script.into_trace(),
+        flagged: false,
+    }
+}
+
+/// One WRITE with WP# moved before each bit, so that every other event has the flag.
+fn spi_flagged(part: u32) -> Stream {
+    let mut rng = Rng::new(5);
+    let mut script = Script::spi();
+    script.command(&[6]);
+    script.select();
+    script.bytes(&addressed(part, 2, 0));
+    for _ in 0..8 * BYTES {
+        script.others ^= spi_pin::WP;
+        script.bit(rng.chance(500));
+    }
+    script.deselect();
+    Stream {
+        name: "SPI flagged",
+        part,
+        trace: script.into_trace(),
+        flagged: true,
+    }
+}
+
+/// One write transfer with WP moved before each clock, so that every other event has the flag. WP is
+/// low in the ninth clock of every other byte, which is stored.
+fn i2c_flagged(part: u32) -> Stream {
+    let mut rng = Rng::new(6);
+    let mut script = Script::i2c(0);
+    script.start();
+    script.give_all(&[0xa0, 0, 0]);
+    for clock in 0..9 * BYTES {
+        script.others ^= i2c_pin::WP;
+        script.clock(clock % 9 == 8 || rng.chance(500));
+    }
+    script.stop();
+    Stream {
+        name: "I2C flagged",
+        part,
+        trace: script.into_trace(),
+        flagged: true,
     }
 }
 
@@ -109,7 +157,7 @@ fn expected(name: &'static str, stream: Stream) -> Stream {
     let (_, mut model) = Model::make(stream.part, 0, 0);
     let mut memory = vec![0; PARTS[stream.part as usize].size];
     let checked = events(&stream.trace).flat_map(|event| {
-        let (_, answer) = model.event(event, &mut memory);
+        let (_, answer, _) = model.event(event, &mut memory);
         [event, &[5, answer]].concat()
     });
     Stream {
@@ -134,6 +182,7 @@ fn random(part: u32) -> Stream {
         name,
         part,
         trace: script.into_trace(),
+        flagged: true,
     }
 }
 
@@ -155,6 +204,8 @@ fn measure(stream: &Stream, rounds: usize) -> f64 {
         };
         assert!(ran == same && one == two, "the two sides differ");
         assert_eq!(ran.number, 0, "the stream has a refused event");
+        let flagged = ran.flag < stream.trace.len() as u64;
+        assert_eq!(flagged, stream.flagged, "the flag");
         events = ran.count;
         times.push((our_time, their_time));
     }
