@@ -64,8 +64,8 @@ module _ (last x : ℕ) (before l : Levels) (eb : before ≡ levelsOf last) (el 
   unflagged : f ≡ flagAt n f o (flagOf before l)
   unflagged = rw (eb, el, steady-clear last x h) (sym (first-none n f))
 
-  pub clock-seen : running x ≡ true → (e : Edge) → e ≡ clockEdge true true (before .sck) (l .sck) (l .si) → Seen before l n f o e f
-  clock-seen r e k = record { edge = k ∙ rw (eb, el) (sym (steady-clock last x h r)); flag = unflagged }
+  pub clock-seen : running x ≡ true → (e : Edge) → e ≡ clockEdge true true (levelsOf last .sck) (levelsOf x .sck) (levelsOf x .si) → Seen before l n f o e f
+  clock-seen r e k = record { edge = rw (eb, el) (k ∙ sym (steady-clock last x h r)); flag = unflagged }
 
   pub quiet-seen : running x ≡ false → Seen before l n f o Quiet f
   quiet-seen r = record { edge = rw (eb, el) (sym (steady-quiet last x h r)); flag = unflagged }

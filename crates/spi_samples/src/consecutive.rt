@@ -48,7 +48,9 @@ pub fn spi_samples(
         let before = selection::levels::levels_of(last);
         let edge = if crate::turn::steady(last, sample) {
             if crate::turn::running(sample) {
-                selection::edge::clock_edge(true, true, before.sck, levels.sck, levels.si)
+                let was = crate::turn::sck(last);
+                let sck = crate::turn::sck(sample);
+                selection::edge::clock_edge(true, true, was, sck, crate::turn::si(sample))
             } else {
                 Edge::Quiet
             }

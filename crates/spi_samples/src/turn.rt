@@ -67,6 +67,19 @@ pub fn running(sample: u8) -> bool
     }
 }
 
+// SCK and SI of a sample, each by itself: the loop is quicker than with all five levels of both samples.
+pub fn sck(sample: u8) -> bool
+    ensures { λ r. ⌜ r ≡ levelsOf sample .sck ⌝ }
+{
+    sample / 2 % 2 == 1
+}
+
+pub fn si(sample: u8) -> bool
+    ensures { λ r. ⌜ r ≡ levelsOf sample .si ⌝ }
+{
+    sample / 4 % 2 == 1
+}
+
 // The offset of the first flagged event, once the sample at offset is taken.
 pub fn flag_after(length: usize, flag: usize, offset: usize, before: Levels, now: Levels) -> usize
     ensures { λ r. ⌜ r ≡ flagAt length flag offset (flagOf before now) ⌝ }

@@ -98,7 +98,7 @@ loop-again c =
     let tested = seen .before .steady .ensures in
     let v : Seen (before .result) (levels .result) (length (a .trace .now)) (l .flag) (l .offset) (seen .if2 .edge) (seen .if2 .flag) =
     ⊎-elim
-    (λ w. rw (w .4, w .5) (clock-seen (l .last) _ (before .result) (levels .result) (before .ensures) (levels .ensures) _ _ _ (sym tested ∙ w .0 .taken) (sym (w .1 .ensures) ∙ w .2 .taken) _ (w .3 .ensures)))
+    (λ w. rw (w .7, w .8) (clock-seen (l .last) _ (before .result) (levels .result) (before .ensures) (levels .ensures) _ _ _ (sym tested ∙ w .0 .taken) (sym (w .1 .ensures) ∙ w .2 .taken) _ (rw (w .3 .ensures, w .4 .ensures, w .5 .ensures) at (w .6 .ensures))))
     (⊎-elim
     (λ w. rw (w .3, w .4) (quiet-seen (l .last) _ (before .result) (levels .result) (before .ensures) (levels .ensures) _ _ _ (sym tested ∙ w .0 .taken) (sym (w .1 .ensures) ∙ w .2 .left)))
     (λ w. record { edge = w .4 ∙ w .2 .ensures; flag = w .3 ∙ w .1 .ensures }))
@@ -134,6 +134,9 @@ spi-samples-spec =
     loop-holds
     next-is-requires
     first-sample-requires
+    (λ c κs. search needs)
+    (λ c κs. search needs)
+    (λ c κs. search needs)
     (λ c κs. search needs)
     (λ c κs. search needs)
     (λ c κs. search needs)
