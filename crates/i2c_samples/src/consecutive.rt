@@ -62,9 +62,7 @@ pub fn i2c_samples(
                 buffer = transfer::buffer::buffer_after(part, buffer, phase);
                 phase = next;
             }
-            Edge::Fall => {
-                pulling = i2c::pull::pulls_after(part, pins, memory, phase);
-            }
+            Edge::Fall => pulling = i2c::pull::pulls_after(part, pins, memory, phase),
             Edge::Quiet => {}
         }
         crate::turn::note_pull(&mut *answers, count, pulling);
@@ -73,12 +71,6 @@ pub fn i2c_samples(
         offset += 2;
     }
     let status = model.status;
-    samples::progress::progress_at(
-        model,
-        status,
-        crate::turn::on_bus(last, pulling, buffer, phase),
-        count,
-        offset,
-        flag,
-    )
+    let bus = crate::turn::on_bus(last, pulling, buffer, phase);
+    samples::progress::progress_at(model, status, bus, count, offset, flag)
 }

@@ -69,12 +69,8 @@ pub fn spi_samples(
                 phase = Phase::Rest;
                 shown = Answer::HighZ;
             }
-            Edge::Rise { si } => {
-                phase = crate::turn::rise(part, status, phase, si, &mut *memory);
-            }
-            Edge::Fall => {
-                shown = spi::show::after_fall(part, status, memory, phase, shown);
-            }
+            Edge::Rise { si } => phase = crate::turn::rise(part, status, phase, si, &mut *memory),
+            Edge::Fall => shown = spi::show::after_fall(part, status, memory, phase, shown),
             Edge::Quiet => {}
         }
         crate::turn::note_shown(&mut *answers, count, levels, shown);
@@ -82,12 +78,6 @@ pub fn spi_samples(
         count += 1;
         offset += 2;
     }
-    samples::progress::progress_at(
-        model,
-        status,
-        crate::turn::on_bus(last, asleep, shown, phase),
-        count,
-        offset,
-        flag,
-    )
+    let bus = crate::turn::on_bus(last, asleep, shown, phase);
+    samples::progress::progress_at(model, status, bus, count, offset, flag)
 }
