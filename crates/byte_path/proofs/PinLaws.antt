@@ -12,7 +12,6 @@ use Rattle.parts.specs.declared.status.Status.{Status}
 use Rattle.parts.specs.Numbers.{answerNumber}
 use Rattle.parts.specs.Table.{partOf}
 use Rattle.serial.specs.Write.{applied}
-use Rattle.trace.specs.declared.event.Event.the-variants.{Sample}
 use Rattle.selection.specs.declared.levels.Levels.{Levels}
 use Rattle.selection.specs.declared.phase.Phase.{Phase}
 use Rattle.selection.specs.declared.phase.Phase.the-variants.{Rest, Ignoring, Taking, Showing, Waiting}

@@ -20,7 +20,7 @@ use Rattle.runs.specs.Run.{ranOf, stop, runOnVerdict, runOf}
 use Rattle.runs.specs.Rules.{Counted}
 use Rattle.runs.proofs.RunCounts.{run-counted}
 use Rattle.runs.proofs.RunRule.{loop-sound}
-use Rattle.byte_path.specs.Select.{Select, partSelect, selectOf}
+use Rattle.byte_path.specs.Select.{partSelect, selectOf}
 use Rattle.made.specs.MadeRun.{madeRun}
 use Rattle.made.specs.MadeSelect.{madeSelect}
 

@@ -35,7 +35,7 @@ use Rattle.chip.specs.Check.{Sound}
 use Rattle.events.specs.Event.{Outcome, accepted, refused, expected, advanceOn, advanceOf}
 use Rattle.events.proofs.Done.{Done, refused-with, accepted-as, done}
 use Rattle.runs.specs.Event.{onRead, eventOnVerdict, eventOf}
-use Rattle.runs.specs.Run.{Run, stopAt, after, runOnVerdict, loopOf, runOf}
+use Rattle.runs.specs.Run.{Run, stopAt, after, runOnVerdict, runOf}
 use Rattle.runs.proofs.EventLaws.{event-sound, event-stays}
 use Rattle.runs.proofs.RunLaws.{taken, Stops, at-quota, at-end, at-refusal, loop-induction}
 use Rattle.promise.specs.Lists.{modelAfter, memoryAfter}

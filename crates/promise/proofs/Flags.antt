@@ -1,7 +1,7 @@
 -- THE FLAGS: for every making, every first memory and every list of events, an accepted event is flagged exactly where the wires say that WP
 -- moved and had to be still, and a run points at the first such event. From the agreement with the ledger after every list, and by what
 -- holds of every run. Assumes nothing.
-use Prim.Native.Nat.{ℕ, zero, suc, _+_, _<_}
+use Prim.Native.Nat.{ℕ, suc, _+_}
 use mathlib.Core.Path.{_≡_, refl, sym, ap, _∙_, subst}
 use mathlib.Core.Bool.{Bool, true, false, cond, false≢true}
 use mathlib.Core.List.{List, [], _∷_, _++_, append-assoc}
@@ -30,11 +30,10 @@ use Rattle.chip.specs.declared.model.Model.{Model}
 use Rattle.chip.specs.Check.{checkOf, Sound}
 use Rattle.events.specs.Event.{Outcome, advanceOn, advanceOf}
 use Rattle.events.proofs.OtherEventLaws.{expected-clear}
-use Rattle.runs.specs.Event.{eventOnVerdict, eventOf}
-use Rattle.runs.specs.Run.{Run, stopAt, after, runOnVerdict, loopOf, runOf}
+use Rattle.runs.specs.Event.{eventOf}
+use Rattle.runs.specs.Run.{Run, after, runOnVerdict, loopOf, runOf}
 use Rattle.runs.proofs.EventLaws.{event-whole, event-stays, accepted-sound, accepted-within}
 use Rattle.runs.proofs.RunLaws.{taken, loop-induction}
-use Rattle.samples.proofs.SamplesLaws.{none-left}
 use Rattle.ledger.specs.History.{Entry}
 use Rattle.ledger.specs.SpiLedger as Spi
 use Rattle.ledger.specs.I2cLedger as I2cLedger
@@ -44,7 +43,6 @@ use Rattle.ledger.proofs.Flags.{spi-exactly, i2c-exactly}
 use Rattle.promise.specs.Lists.{modelAfter, memoryAfter}
 use Rattle.promise.specs.Promise.{madeBy, historyOf}
 use Rattle.promise.specs.RunEvents.{split}
-use Rattle.promise.specs.Fields.{kindAt}
 use Rattle.promise.specs.FirstAt.{FirstAt}
 use Rattle.promise.specs.Flags.{Warned, EventFlagged, WarnedAt, FlagsPromise}
 use Rattle.promise.proofs.Ranges.{made-in, made-off}
