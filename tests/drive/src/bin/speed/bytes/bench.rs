@@ -1,6 +1,7 @@
 //! How a selection is timed: on the proved build by bytes and by pins, on the twin by bytes, and
 //! beside them a copy of as many bytes. Each call makes a model and runs what comes before the
-//! selection, so the time of that alone, taken in the same turn, is subtracted.
+//! selection, so the time of the same call without it, taken in the same turn, is subtracted: by
+//! bytes with the selection refused, by pins with the trace before it alone.
 
 use super::Selection;
 use crate::{median, timed};
@@ -50,16 +51,21 @@ pub(super) struct Bench<'a> {
 type Seconds = [f64; 4];
 
 /// How many things are measured.
-const MEASURES: usize = 6;
+const MEASURES: usize = 7;
+
+/// The number for an output that is not as long as the input, which refuses a selection and nothing
+/// before it.
+const LENGTHS: u8 = 13;
 
 impl<'a> Bench<'a> {
     /// All that is measured; each gives the seconds of one call.
     const ALL: [fn(&mut Bench<'a>) -> f64; MEASURES] = [
         Bench::by_bytes,
+        Bench::refused,
         Bench::by_pins,
         Bench::before,
         Bench::by_twin,
-        Bench::before_by_twin,
+        Bench::refused_by_twin,
         Bench::copied,
     ];
 
@@ -87,8 +93,8 @@ impl<'a> Bench<'a> {
             let which = (turn + at) % MEASURES;
             seconds[which] = Bench::ALL[which](self);
         }
-        let [bytes, pins, before, twin, before_by_twin, copy] = seconds;
-        [bytes - before, pins - before, twin - before_by_twin, copy]
+        let [bytes, refused, pins, before, twin, twin_refused, copy] = seconds;
+        [bytes - refused, pins - before, twin - twin_refused, copy]
     }
 
     /// Prints the medians. The ratios are those of the times of a turn, so that a load that comes
@@ -106,48 +112,43 @@ impl<'a> Bench<'a> {
 
     /// Both sides give the same, so that the same work is timed.
     pub(super) fn agree(&mut self) {
-        let theirs = self.twin_selected();
+        let theirs = self.twin_selected(0);
         let left = (self.output.bytes().to_vec(), self.memory.bytes().to_vec());
         self.output.bytes().fill(0);
         self.memory
             .bytes()
             .copy_from_slice(&first_memory(self.selection.size()));
-        let ours = self.selected();
+        let ours = self.selected(0);
         assert_eq!(ours, theirs, "the two sides differ");
         let same = left.0 == self.output.bytes() && left.1 == self.memory.bytes();
         assert!(same, "the two sides differ in what they leave");
     }
 
-    fn selected(&mut self) -> Selected {
+    /// The selection, with an output that is so many bytes short.
+    fn selected(&mut self, short: usize) -> Selected {
         let Selection { making, before, .. } = self.selection;
-        let (output, memory) = (self.output.bytes(), self.memory.bytes());
-        drive::select(
-            *making,
-            black_box(before),
-            1,
-            self.input.bytes(),
-            output,
-            memory,
-        )
+        let (input, memory) = (self.input.bytes(), self.memory.bytes());
+        let output = &mut self.output.bytes()[short..];
+        drive::select(*making, black_box(before), 1, input, output, memory)
     }
 
-    fn twin_selected(&mut self) -> Selected {
-        let mut model = self.twin();
-        let (output, memory) = (self.output.bytes(), self.memory.bytes());
-        let selected = model.select(true, self.input.bytes(), output, memory);
+    /// The same on the twin.
+    fn twin_selected(&mut self, short: usize) -> Selected {
+        let (_, mut model) = Model::make(self.selection.making.part, 0, 0);
+        let (input, memory) = (self.input.bytes(), self.memory.bytes());
+        let output = &mut self.output.bytes()[short..];
+        model.run_each(black_box(&self.selection.before), u64::MAX, memory, |_| ());
+        let selected = model.select(true, input, output, memory);
         black_box((model, selected)).1
     }
 
-    /// The twin's model as it is before the selection.
-    fn twin(&mut self) -> Model {
-        let (_, mut model) = Model::make(self.selection.making.part, 0, 0);
-        let before = black_box(&self.selection.before[..]);
-        model.run_each(before, u64::MAX, self.memory.bytes(), |_| ());
-        model
+    fn by_bytes(&mut self) -> f64 {
+        repeated(self.selection.length.calls, 0, || self.selected(0).number)
     }
 
-    fn by_bytes(&mut self) -> f64 {
-        repeated(self.selection.length.calls, || self.selected().number)
+    fn refused(&mut self) -> f64 {
+        let calls = self.selection.length.calls;
+        repeated(calls, LENGTHS, || self.selected(1).number)
     }
 
     fn by_pins(&mut self) -> f64 {
@@ -160,40 +161,34 @@ impl<'a> Bench<'a> {
 
     fn run(&mut self, trace: &[u8], calls: usize) -> f64 {
         let making = self.selection.making;
-        repeated(calls, || {
-            drive::run(
-                making,
-                u64::MAX,
-                black_box(trace),
-                self.memory.bytes(),
-                None,
-            )
-            .number
+        repeated(calls, 0, || {
+            let (trace, memory) = (black_box(trace), self.memory.bytes());
+            drive::run(making, u64::MAX, trace, memory, None).number
         })
     }
 
     fn by_twin(&mut self) -> f64 {
-        repeated(self.selection.length.calls, || self.twin_selected().number)
+        let calls = self.selection.length.calls;
+        repeated(calls, 0, || self.twin_selected(0).number)
     }
 
-    fn before_by_twin(&mut self) -> f64 {
-        repeated(self.selection.length.calls, || {
-            black_box(self.twin());
-            0
-        })
+    fn refused_by_twin(&mut self) -> f64 {
+        let calls = self.selection.length.calls;
+        repeated(calls, LENGTHS, || self.twin_selected(1).number)
     }
 
     fn copied(&mut self) -> f64 {
-        repeated(self.selection.length.calls, || {
+        repeated(self.selection.length.calls, 0, || {
             self.output.bytes().copy_from_slice(self.input.bytes());
             0
         })
     }
 }
 
-/// The seconds of one of so many calls, each of which gives the number 0.
-fn repeated(calls: usize, mut call: impl FnMut() -> u8) -> f64 {
-    let (numbers, seconds) = timed(|| (0..calls).fold(0, |all, _| all | black_box(call())));
-    assert_eq!(numbers, 0, "a call is refused");
+/// The seconds of one of so many calls, each of which gives this number.
+fn repeated(calls: usize, number: u8, mut call: impl FnMut() -> u8) -> f64 {
+    let other = |all: u8, _| all | (black_box(call()) ^ number);
+    let (others, seconds) = timed(|| (0..calls).fold(0, other));
+    assert_eq!(others, 0, "a call does not give {number}");
     seconds / calls as f64
 }
