@@ -19,9 +19,25 @@ pub struct Shown {
     pub flagged: Option<u64>,
 }
 
-/// What a trace shows, and how it goes on after power on: the number that ends it, and the place of
-/// the first event with the flag.
-type Story = (&'static str, fn(&mut Script) -> (u8, Option<usize>));
+/// What a trace shows, and how it goes on after power on.
+type Story = (&'static str, fn(&mut Script) -> End);
+
+/// The number that ends a trace, and the place of the first event with the flag.
+type End = (u8, Option<usize>);
+
+/// An end without a refusal and without the flag.
+const NONE: End = (0, None);
+
+/// An end without a refusal, with the flag first at this place.
+fn flagged(place: usize) -> End {
+    (0, Some(place))
+}
+
+/// A sample with these wires and the other level of WP, which is this bit of it; its place.
+fn moved(it: &mut Script, wp: u8, wires: u8) -> usize {
+    it.others ^= wp;
+    it.sample(wires)
+}
 
 /// Each story of the SPI parts.
 pub fn spi() -> Vec<Shown> {

@@ -1,7 +1,7 @@
 //! I2C: the flag is for a move of WP in a sample before which the part lies between START and STOP,
 //! deaf or not. The line decides what START and STOP are, and the sample's SDA is not all of it.
 
-use super::Story;
+use super::{flagged, moved, Story, NONE};
 use crate::script::Script;
 use twin::part::i2c_pin::{SCL, SDA, WP};
 
@@ -274,16 +274,9 @@ pub(super) const STORIES: &[Story] = &[
     }),
 ];
 
-const NONE: (u8, Option<usize>) = (0, None);
-
-fn flagged(place: usize) -> (u8, Option<usize>) {
-    (0, Some(place))
-}
-
 /// A sample with the other level of WP; its place.
 fn moves(it: &mut Script, wires: u8) -> usize {
-    it.others ^= WP;
-    it.sample(wires)
+    moved(it, WP, wires)
 }
 
 /// The eight bits of a byte, without its acknowledge.

@@ -1,7 +1,7 @@
 //! SPI: the flag is for a move of WP# with CS# 0 in the sample before and in this one, whatever the
 //! part makes of the selection.
 
-use super::Story;
+use super::{flagged, moved, Story, NONE};
 use crate::script::Script;
 use twin::part::spi_pin::{CS, HOLD, SCK, SI, WP};
 
@@ -197,14 +197,7 @@ pub(super) const STORIES: &[Story] = &[
     }),
 ];
 
-const NONE: (u8, Option<usize>) = (0, None);
-
-fn flagged(place: usize) -> (u8, Option<usize>) {
-    (0, Some(place))
-}
-
 /// A sample with the other level of WP#; its place.
 fn moves(it: &mut Script, wires: u8) -> usize {
-    it.others ^= WP;
-    it.sample(wires)
+    moved(it, WP, wires)
 }
