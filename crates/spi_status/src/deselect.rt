@@ -1,6 +1,6 @@
 // What CS# rising does to the status register and to sleep.
 ghost use mathlib.Core.Path.{_≡_};
-ghost use Rattle.spi_status.specs.Deselect.{takenStatus, writtenStatus, actionStatus, fieldStatus, statusAfter, isSleep, sleeps, asleepAfter};
+ghost use Rattle.spi_status.specs.Deselect.{takenStatus, writtenStatus, actionStatus, fieldStatus, statusAfter, isSleep, asleepAfter};
 use parts::status::Status;
 use selection::phase::Action;
 use selection::phase::Field;
@@ -97,26 +97,12 @@ fn is_sleep(action: Action) -> bool
     }
 }
 
-// Whether a selection that ends in this phase puts the part to sleep.
-fn sleeps(phase: Phase) -> bool
-    ensures { λ r. ⌜ r ≡ sleeps phase ⌝ }
-{
-    match phase {
-        Phase::Rest => false,
-        Phase::Ignoring => false,
-        Phase::Taking {
-            field: _,
-            count: _,
-            value: _,
-        } => false,
-        Phase::Showing { source: _, bit: _ } => false,
-        Phase::Waiting { action } => is_sleep(action),
-    }
-}
-
 // Whether the part sleeps after CS# rises.
 pub fn asleep_after(asleep: bool, phase: Phase) -> bool
     ensures { λ r. ⌜ r ≡ asleepAfter asleep phase ⌝ }
 {
-    if asleep { false } else { sleeps(phase) }
+    let Phase::Waiting { action } = phase else {
+        return false;
+    };
+    if asleep { false } else { is_sleep(action) }
 }
