@@ -39,10 +39,13 @@ pub fn i2c_samples(
     let mut pulling = i2c.pulling;
     let mut buffer = i2c.buffer;
     let mut phase = i2c.phase;
+    let mut bits = phase_bits::byte::bits_of(phase);
+    let mut value = phase_bits::byte::value_of(phase);
+    let end = samples::progress::latest(trace.len(), quota, first, start);
     let mut count = first;
     let mut offset = start;
     let mut flag = earlier;
-    while crate::turn::next_is(trace, quota, count, offset, pulling) {
+    while crate::turn::next_is(trace, end, offset, pulling) {
         let sample = samples::progress::first_sample(trace, offset, last);
         let levels = transfer::levels::levels_of(sample);
         let before = transfer::levels::levels_of(last);
@@ -50,6 +53,8 @@ pub fn i2c_samples(
         match crate::turn::clock_first(pulling, last, sample) {
             Edge::Start => {
                 phase = transfer::rise::taking(Field::Word);
+                bits = 0;
+                value = 0;
                 pulling = false;
             }
             Edge::Stop => {
@@ -57,12 +62,22 @@ pub fn i2c_samples(
                 pulling = false;
             }
             Edge::Rise { line } => {
-                crate::turn::store(part, phase, levels.wp, &mut *memory);
-                let next = transfer::rise::after_rise(part, pins, buffer, phase, line);
-                buffer = transfer::buffer::buffer_after(part, buffer, phase);
-                phase = next;
+                if bits < 8 {
+                    bits += 1;
+                    value = serial::bits::shift_in(value, line);
+                } else {
+                    let whole = phase_bits::byte::with_bits(phase, bits, value);
+                    crate::turn::store(part, whole, levels.wp, &mut *memory);
+                    phase = transfer::rise::after_rise(part, pins, buffer, whole, line);
+                    buffer = transfer::buffer::buffer_after(part, buffer, whole);
+                    bits = 0;
+                    value = 0;
+                }
             }
-            Edge::Fall => pulling = i2c::pull::pulls_after(part, pins, memory, phase),
+            Edge::Fall => {
+                let whole = phase_bits::byte::with_bits(phase, bits, value);
+                pulling = i2c::pull::pulls_after(part, pins, memory, whole);
+            }
             Edge::Quiet => {}
         }
         crate::turn::note_pull(&mut *answers, count, pulling);
@@ -71,6 +86,7 @@ pub fn i2c_samples(
         offset += 2;
     }
     let status = model.status;
-    let bus = crate::turn::on_bus(last, pulling, buffer, phase);
+    let whole = phase_bits::byte::with_bits(phase, bits, value);
+    let bus = crate::turn::on_bus(last, pulling, buffer, whole);
     samples::progress::progress_at(model, status, bus, count, offset, flag)
 }

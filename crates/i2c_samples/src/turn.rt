@@ -1,7 +1,7 @@
 // What one turn of the loop asks and does: whether there is a next event, its edge and flag, what a rise stores, the answer noted.
 ghost use mathlib.Core.Path.{_≡_};
-ghost use Prim.Native.Nat.{_≤_};
-ghost use lib.ListN.{length, drop, set};
+ghost use Prim.Native.Nat.{_≤_, _<_, _+_};
+ghost use lib.ListN.{length, set};
 ghost use Rattle.parts.specs.Numbers.{answerNumber};
 ghost use Rattle.serial.specs.Write.{applied};
 ghost use Rattle.transfer.specs.Edge.{edgeOf};
@@ -12,7 +12,8 @@ ghost use Rattle.i2c.specs.Sample.{answerOf};
 ghost use Rattle.i2c.specs.Store.{riseWrite};
 ghost use Rattle.chip.specs.declared.model.BusState.the-variants.{I2cOn};
 ghost use Rattle.events.specs.Flag.{flagAt};
-ghost use Rattle.samples.specs.Samples.{nextIs, i2cOf};
+ghost use Rattle.samples.specs.Bound.{nextBefore};
+ghost use Rattle.samples.specs.Samples.{i2cOf};
 use chip::model::BusState;
 use i2c::sample::I2c;
 use parts::part::Part;
@@ -89,14 +90,14 @@ pub fn store(part: Part, phase: Phase, wp: bool, memory: &mut [u8])
     serial::write::apply(write, memory);
 }
 
-// Whether the quota allows one more event, and at offset there is a sample, or the present answer is expected.
-pub fn next_is(trace: &[u8], quota: usize, count: usize, offset: usize, pulling: bool) -> bool
-    requires { ⌜ offset ≤ length (now trace) ⌝ }
-    ensures { λ r. ⌜ r ≡ nextIs 8 (answerNumber (answerOf pulling)) quota count (drop offset (now (trace .entry))) ⌝ }
+// Whether offset lies before the end, and there is a sample, or the present answer is expected.
+pub fn next_is(trace: &[u8], end: usize, offset: usize, pulling: bool) -> bool
+    requires { ⌜ (offset < end → offset + 2 ≤ length (now trace)) ⌝ }
+    ensures { λ r. ⌜ r ≡ nextBefore 8 (answerNumber (answerOf pulling)) end offset (now (trace .entry)) ⌝ }
 {
-    if quota <= count {
+    if end <= offset {
         return false;
     }
     let answer = i2c::sample::answer_of(pulling);
-    trace::sample::stays_first(&trace[offset..], 8, answer.number())
+    trace::sample::stays_at(trace, offset, 8, answer.number())
 }

@@ -1,3 +1,4 @@
 pub mod SamplesLaws
 pub mod NextLaws
 pub mod HeldLaws
+pub mod BoundLaws

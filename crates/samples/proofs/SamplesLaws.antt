@@ -8,13 +8,13 @@ use native.Mathlib.Numerals.{add-one}
 use native.Mathlib.Omega.{arith}
 use lib.Dec.{eqb, ltb}
 use lib.ListN.{length, take, drop, set, getD, length-drop}
-use lib.Seq.{drop-drop, take-all, sets, getD-drop}
-use borrow.Author.Tests.{ltb-true, ltb-false, lt-ltb, le-ltb, ne-eqb}
+use lib.Seq.{drop-drop, take-all, sets}
+use borrow.Author.Tests.{ltb-true, ltb-false, ne-eqb}
 use Rattle.parts.specs.declared.part.Part.{Part}
 use Rattle.parts.specs.Table.{partOf}
 use Rattle.trace.specs.declared.event.Event.the-variants.{Sample, Expected}
-use Rattle.trace.specs.Sample.{sampleFirst, expectedFirst, staysFirst, firstEvent}
-use Rattle.trace.proofs.SampleLaws.{stays-long}
+use Rattle.trace.specs.Sample.{staysFirst, firstEvent}
+use Rattle.trace.proofs.SampleLaws.{stays-long, kind-at, value-at}
 use Rattle.trace.proofs.SuitLaws.{Suits}
 use Rattle.chip.specs.declared.model.BusState.the-variants.{Unpowered}
 use Rattle.chip.specs.declared.model.Model.{Model}
@@ -77,19 +77,6 @@ next-tests true true h = (refl, refl)
 next-tests true false h = let z : _≡_ {A = ℕ} 0 1 = cc in absurd (omega arith)
 next-tests false b h = let z : _≡_ {A = ℕ} 0 1 = cc in absurd (omega arith)
 
-module _ (limit a q c : ℕ) (u : List ℕ) where
-  pub next-none : q ≤ c → nextIs limit a q c u ≡ false
-  next-none l = rw (le-ltb c q l)
-
-  pub next-either : c < q → nextIs limit a q c u ≡ staysFirst limit a u
-  next-either l = rw (lt-ltb c q l)
-
-  pub next-sample : c < q → sampleFirst limit u ≡ true → nextIs limit a q c u ≡ true
-  next-sample l e = rw (lt-ltb c q l, e)
-
-  pub next-expected : c < q → sampleFirst limit u ≡ false → nextIs limit a q c u ≡ expectedFirst a u
-  next-expected l e = rw (lt-ltb c q l, e)
-
 module _ (limit a q c : ℕ) (u : List ℕ) (h : nextIs limit a q c u ≡ true) where
   pub more : c < q
   more = ltb-true c q (next-tests (ltb c q) (staysFirst limit a u) h .0)
@@ -103,14 +90,11 @@ room limit a q c o t h = let l = stays-long limit a (drop o t) (first limit a q 
 
 -- the sample that the event at offset o amounts to, by its kind
 module _ (last : ℕ) (t : List ℕ) (o : ℕ) where
-  kind : getD (drop o t) 0 0 ≡ getD t o 0
-  kind = getD-drop o t 0 0 ∙ ap (λ (k : ℕ). getD t k 0) (add-zero o)
-
   pub first-4 : getD t o 0 ≡ 4 → firstSample last (drop o t) ≡ getD t (o + 1) 0
-  first-4 k = rw (kind, k) (getD-drop o t 1 0)
+  first-4 k = rw (kind-at t o, k) (value-at t o)
 
   pub first-other : (getD t o 0 ≡ 4 → ⊥) → firstSample last (drop o t) ≡ last
-  first-other k = rw (kind, ne-eqb (getD t o 0) 4 k)
+  first-other k = rw (kind-at t o, ne-eqb (getD t o 0) 4 k)
 
 -- the event suits any part
 first-suits : (p : Part) (u : List ℕ) → Suits p (firstEvent u)

@@ -4,6 +4,7 @@ ghost use Prim.Native.Nat.{_≤_, _+_};
 ghost use lib.ListN.{length, drop};
 ghost use Rattle.chip.specs.Model.{modelOf};
 ghost use Rattle.events.specs.Flag.{flagAt};
+ghost use Rattle.samples.specs.Bound.{latest};
 ghost use Rattle.samples.specs.Samples.{progress, firstSample};
 use chip::model::BusState;
 use chip::model::Model;
@@ -46,6 +47,24 @@ pub fn flag_at(length: usize, flag: usize, offset: usize, flagged: bool) -> usiz
         if flag == length { offset } else { flag }
     } else {
         flag
+    }
+}
+
+// The offset at which consecutive samples end at the latest, from `start` on and after `first` accepted events: there is no quota left, or
+// no room for one more in a trace of this length.
+pub fn latest(length: usize, quota: usize, first: usize, start: usize) -> usize
+    requires { ⌜ start ≤ length ⌝ }
+    ensures { λ r. ⌜ r ≡ latest length quota first start ⌝ }
+{
+    let room = (length - start) / 2;
+    if quota <= first {
+        return start;
+    }
+    let left = quota - first;
+    if left < room {
+        start + 2 * left
+    } else {
+        start + 2 * room
     }
 }
 

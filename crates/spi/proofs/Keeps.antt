@@ -40,7 +40,7 @@ use Rattle.spi.specs.Sample.{selected, stepOn, stepOf, Ready}
 
 module _ (p : Part) (fit : Fit p) where
   -- a field with none of its bits yet, and the first bit of a byte
-  width-wide : (f : Field) → 0 < width p f
+  pub width-wide : (f : Field) → 0 < width p f
   width-wide Opcode = omega arith
   width-wide ReadAddress = fit .wide
   width-wide FastAddress = fit .wide

@@ -1,2 +1,1 @@
 pub mod SpiLaws
-pub mod SteadyLaws

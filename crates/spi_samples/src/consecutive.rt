@@ -39,38 +39,49 @@ pub fn spi_samples(
     let mut asleep = spi.asleep;
     let mut shown = spi.shown;
     let mut phase = spi.phase;
+    let mut bits = phase_bits::field::bits_of(phase);
+    let mut value = phase_bits::field::value_of(phase);
+    let mut early = phase_bits::field::early_of(part, phase);
+    let end = samples::progress::latest(trace.len(), quota, first, start);
     let mut count = first;
     let mut offset = start;
     let mut flag = earlier;
-    while crate::turn::next_is(trace, quota, count, offset, last, shown) {
+    while crate::turn::next_is(trace, end, offset, last, shown) {
         let sample = samples::progress::first_sample(trace, offset, last);
         let levels = selection::levels::levels_of(sample);
         let before = selection::levels::levels_of(last);
-        let edge = if crate::turn::steady(last, sample) {
-            if crate::turn::running(sample) {
-                let was = crate::turn::sck(last);
-                let sck = crate::turn::sck(sample);
-                selection::edge::clock_edge(true, true, was, sck, crate::turn::si(sample))
-            } else {
-                Edge::Quiet
-            }
-        } else {
-            flag = crate::turn::flag_after(trace.len(), flag, offset, before, levels);
-            selection::edge::edge_of(before, levels)
-        };
-        match edge {
+        flag = crate::turn::flag_after(trace.len(), flag, offset, before, levels);
+        match selection::edge::edge_of(before, levels) {
             Edge::Select => {
                 phase = spi::sample::select(asleep);
+                early = phase_bits::field::early_of(part, phase);
+                bits = 0;
+                value = 0;
                 shown = Answer::HighZ;
             }
             Edge::Deselect => {
                 status = spi_status::deselect::status_after(status, levels.wp, phase);
                 asleep = spi_status::deselect::asleep_after(asleep, phase);
                 phase = Phase::Rest;
+                early = phase_bits::field::early_of(part, phase);
                 shown = Answer::HighZ;
             }
-            Edge::Rise { si } => phase = crate::turn::rise(part, status, phase, si, &mut *memory),
-            Edge::Fall => shown = spi::show::after_fall(part, status, memory, phase, shown),
+            Edge::Rise { si } => {
+                if bits < early {
+                    bits += 1;
+                    value = serial::bits::shift_in(value, si);
+                } else {
+                    let whole = phase_bits::field::with_bits(phase, bits, value);
+                    phase = crate::turn::rise(part, status, whole, si, &mut *memory);
+                    early = phase_bits::field::early_of(part, phase);
+                    bits = 0;
+                    value = 0;
+                }
+            }
+            Edge::Fall => {
+                let whole = phase_bits::field::with_bits(phase, bits, value);
+                shown = spi::show::after_fall(part, status, memory, whole, shown);
+            }
             Edge::Quiet => {}
         }
         crate::turn::note_shown(&mut *answers, count, levels, shown);
@@ -78,6 +89,7 @@ pub fn spi_samples(
         count += 1;
         offset += 2;
     }
-    let bus = crate::turn::on_bus(last, asleep, shown, phase);
+    let whole = phase_bits::field::with_bits(phase, bits, value);
+    let bus = crate::turn::on_bus(last, asleep, shown, whole);
     samples::progress::progress_at(model, status, bus, count, offset, flag)
 }

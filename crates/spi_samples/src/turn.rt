@@ -1,7 +1,7 @@
-// What one turn of the loop asks and does: whether there is a next event, its edge and flag, what a rise stores, the answer noted.
+// What one turn of the loop asks and does: whether there is a next event, its flag, what a rise stores, the answer noted.
 ghost use mathlib.Core.Path.{_≡_};
-ghost use Prim.Native.Nat.{_≤_};
-ghost use lib.ListN.{length, drop, set};
+ghost use Prim.Native.Nat.{_≤_, _<_, _+_};
+ghost use lib.ListN.{length, set};
 ghost use Rattle.parts.specs.Table.{Fit};
 ghost use Rattle.serial.specs.Write.{applied};
 ghost use Rattle.selection.specs.Flag.{flagOf};
@@ -13,8 +13,8 @@ ghost use Rattle.spi.specs.Store.{riseWrite};
 ghost use Rattle.chip.specs.declared.model.BusState.the-variants.{SpiOn};
 ghost use Rattle.parts.specs.Numbers.{answerNumber};
 ghost use Rattle.events.specs.Flag.{flagAt};
-ghost use Rattle.samples.specs.Samples.{nextIs, spiOf};
-ghost use Rattle.spi_samples.specs.Steady.{steady, running};
+ghost use Rattle.samples.specs.Bound.{nextBefore};
+ghost use Rattle.samples.specs.Samples.{spiOf};
 use chip::model::BusState;
 use parts::answer::Answer;
 use parts::part::Part;
@@ -45,41 +45,6 @@ pub fn note_shown(answers: &mut [u8], at: usize, levels: Levels, shown: Answer)
     samples::note::note(answers, at, answer.number());
 }
 
-// Whether CS#, WP# and HOLD# are as before, told by the two bytes: most samples are such.
-pub fn steady(last: u8, sample: u8) -> bool
-    ensures { λ r. ⌜ r ≡ steady last sample ⌝ }
-{
-    if last / 8 == sample / 8 {
-        last % 2 == sample % 2
-    } else {
-        false
-    }
-}
-
-// Whether the part is selected and not held.
-pub fn running(sample: u8) -> bool
-    ensures { λ r. ⌜ r ≡ running sample ⌝ }
-{
-    if sample % 2 == 0 {
-        sample / 16 % 2 == 1
-    } else {
-        false
-    }
-}
-
-// SCK and SI of a sample, each by itself: the loop is quicker than with all five levels of both samples.
-pub fn sck(sample: u8) -> bool
-    ensures { λ r. ⌜ r ≡ levelsOf sample .sck ⌝ }
-{
-    sample / 2 % 2 == 1
-}
-
-pub fn si(sample: u8) -> bool
-    ensures { λ r. ⌜ r ≡ levelsOf sample .si ⌝ }
-{
-    sample / 4 % 2 == 1
-}
-
 // The offset of the first flagged event, once the sample at offset is taken.
 pub fn flag_after(length: usize, flag: usize, offset: usize, before: Levels, now: Levels) -> usize
     ensures { λ r. ⌜ r ≡ flagAt length flag offset (flagOf before now) ⌝ }
@@ -99,25 +64,14 @@ pub fn rise(part: Part, status: Status, phase: Phase, si: bool, memory: &mut [u8
     selection::rise::after_rise(part, phase, si)
 }
 
-// Whether the quota allows one more event, and at offset there is a sample, or the present answer is expected. That answer is made
-// only where it is asked for.
-pub fn next_is(
-    trace: &[u8],
-    quota: usize,
-    count: usize,
-    offset: usize,
-    last: u8,
-    shown: Answer,
-) -> bool
-    requires { ⌜ offset ≤ length (now trace) ⌝ }
-    ensures { λ r. ⌜ r ≡ nextIs 32 (answerNumber (answerAt (levelsOf last) shown)) quota count (drop offset (now (trace .entry))) ⌝ }
+// Whether offset lies before the end, and there is a sample, or the present answer is expected.
+pub fn next_is(trace: &[u8], end: usize, offset: usize, last: u8, shown: Answer) -> bool
+    requires { ⌜ (offset < end → offset + 2 ≤ length (now trace)) ⌝ }
+    ensures { λ r. ⌜ r ≡ nextBefore 32 (answerNumber (answerAt (levelsOf last) shown)) end offset (now (trace .entry)) ⌝ }
 {
-    if quota <= count {
+    if end <= offset {
         return false;
     }
-    if trace::sample::sample_first(&trace[offset..], 32) {
-        return true;
-    }
     let answer = spi::show::answer_at(selection::levels::levels_of(last), shown);
-    trace::sample::expected_first(&trace[offset..], answer.number())
+    trace::sample::stays_at(trace, offset, 32, answer.number())
 }

@@ -1,14 +1,16 @@
 -- Bytes that begin with a sample in range are read as that sample, and no others are; those that begin with an expected answer in
 -- range as that. Assumes nothing.
-use Prim.Native.Nat.{ℕ, _≤_, _<_}
-use mathlib.Core.Path.{_≡_, refl, sym, _∙_}
+use Prim.Native.Nat.{ℕ, _+_, _≤_, _<_}
+use mathlib.Core.Path.{_≡_, refl, sym, ap, _∙_}
 use mathlib.Core.Bool.{Bool, true, false, cond}
 use mathlib.Core.Logic.{_⊎_, inl, inr, ⊎-elim}
 use mathlib.Core.List.{List}
+use native.Mathlib.Nat.{add-zero}
 use native.Mathlib.Omega.{arith}
 use lib.Dec.{eqb, ltb}
-use lib.ListN.{length, getD}
-use borrow.Author.Tests.{eqb-true, ltb-false, lt-ltb, le-ltb}
+use lib.ListN.{length, drop, getD, length-drop}
+use lib.Seq.{getD-drop}
+use borrow.Author.Tests.{eqb-true, ltb-false, lt-ltb, le-ltb, ne-eqb}
 use Rattle.parts.specs.declared.part.Part.{Part}
 use Rattle.trace.specs.declared.event.Event.{Event}
 use Rattle.trace.specs.declared.event.Event.the-variants.{SpiPowerOn, I2cPowerOn, PowerOff, Sample, Expected}
@@ -48,17 +50,30 @@ expected-at p t a l h =
     reads-whole p t (Expected a) 2
     (record { some = λ z. omega arith; known = rw k; long = rw k n; sample = rw k; start = rw k; expected = rw (k, v) (lt-ltb a 3 l); event = rw (k, v); taken = rw k })
 
--- the two tests as one, by the kind
+-- the two tests as one, by the kind and the value that stand at offset o
 either : (b : Bool) → cond b true false ≡ b
 either true = refl
 either false = refl
 
-module _ (limit a : ℕ) (t : List ℕ) (l : 2 ≤ length t) where
-  pub stays-4 : getD t 0 0 ≡ 4 → staysFirst limit a t ≡ ltb (getD t 1 0) limit
-  stays-4 k = rw (le-ltb (length t) 2 l, k) (either (ltb (getD t 1 0) limit))
+module _ (t : List ℕ) (o : ℕ) where
+  pub kind-at : getD (drop o t) 0 0 ≡ getD t o 0
+  kind-at = getD-drop o t 0 0 ∙ ap (λ (k : ℕ). getD t k 0) (add-zero o)
 
-  pub stays-5 : getD t 0 0 ≡ 5 → staysFirst limit a t ≡ eqb (getD t 1 0) a
-  stays-5 k = rw (le-ltb (length t) 2 l, k)
+  pub value-at : getD (drop o t) 1 0 ≡ getD t (o + 1) 0
+  value-at = getD-drop o t 1 0
+
+  module _ (limit a : ℕ) (l : o + 2 ≤ length t) where
+    long : 2 ≤ length (drop o t)
+    long = rw length-drop (omega arith)
+
+    pub stays-4 : getD t o 0 ≡ 4 → staysFirst limit a (drop o t) ≡ ltb (getD t (o + 1) 0) limit
+    stays-4 k = rw (le-ltb (length (drop o t)) 2 long, kind-at, value-at, k) (either (ltb (getD t (o + 1) 0) limit))
+
+    pub stays-5 : getD t o 0 ≡ 5 → staysFirst limit a (drop o t) ≡ eqb (getD t (o + 1) 0) a
+    stays-5 k = rw (le-ltb (length (drop o t)) 2 long, kind-at, value-at, k)
+
+    pub stays-other : (getD t o 0 ≡ 4 → ⊥) → (getD t o 0 ≡ 5 → ⊥) → staysFirst limit a (drop o t) ≡ false
+    stays-other n m = rw (le-ltb (length (drop o t)) 2 long, kind-at, ne-eqb (getD t o 0) 4 n, ne-eqb (getD t o 0) 5 m)
 
 -- either of the two
 module _ (limit a : ℕ) (t : List ℕ) where

@@ -1,44 +1,17 @@
 // Whether the next event is a sample, or an expected answer that holds.
 ghost use mathlib.Core.Path.{_≡_};
-ghost use Rattle.trace.specs.Sample.{sampleFirst, expectedFirst, staysFirst};
+ghost use Prim.Native.Nat.{_≤_, _+_};
+ghost use lib.ListN.{length, drop};
+ghost use Rattle.trace.specs.Sample.{staysFirst};
 
-// Whether the bytes begin with a sample below limit.
-pub fn sample_first(bytes: &[u8], limit: u8) -> bool
-    ensures { λ r. ⌜ r ≡ sampleFirst limit (now (bytes .entry)) ⌝ }
+// Whether at offset there is a sample below limit, or this expected answer: an event that is accepted and leaves power on, where the
+// part answers `answer` at present. There are two bytes at least.
+pub fn stays_at(trace: &[u8], offset: usize, limit: u8, answer: u8) -> bool
+    requires { ⌜ offset + 2 ≤ length (now trace) ⌝ }
+    ensures { λ r. ⌜ r ≡ staysFirst limit answer (drop offset (now (trace .entry))) ⌝ }
 {
-    if bytes.len() < 2 {
-        return false;
-    }
-    if bytes[0] == 4 {
-        bytes[1] < limit
-    } else {
-        false
-    }
-}
-
-// Whether the bytes begin with this expected answer.
-pub fn expected_first(bytes: &[u8], answer: u8) -> bool
-    ensures { λ r. ⌜ r ≡ expectedFirst answer (now (bytes .entry)) ⌝ }
-{
-    if bytes.len() < 2 {
-        return false;
-    }
-    if bytes[0] == 5 {
-        bytes[1] == answer
-    } else {
-        false
-    }
-}
-
-// Either of the two: an event that is accepted and leaves power on, where the part answers `answer` at present.
-pub fn stays_first(bytes: &[u8], limit: u8, answer: u8) -> bool
-    ensures { λ r. ⌜ r ≡ staysFirst limit answer (now (bytes .entry)) ⌝ }
-{
-    if bytes.len() < 2 {
-        return false;
-    }
-    let kind = bytes[0];
-    let value = bytes[1];
+    let kind = trace[offset];
+    let value = trace[offset + 1];
     if kind == 4 {
         return value < limit;
     }

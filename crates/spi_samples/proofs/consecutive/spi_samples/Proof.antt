@@ -1,87 +1,128 @@
--- `spi_samples` meets its contract. The loop's invariant: the part is the one of the state, memory and answers keep their lengths,
--- and what is left of the samples, from the parts of the state that the loop keeps, leads to what all of them give. A turn goes on by
--- its edge. Assumes nothing.
+-- `spi_samples` meets its contract. The loop's invariant: the part is the one of the state and fits, memory and answers keep their
+-- lengths, the bits are few, the end is where quota or trace stop, and what is left of the samples, from the parts of the state that the
+-- loop keeps, leads to what all of them give. A turn goes on by its edge. Assumes nothing.
 use mathlib.Core.Path.{_≡_, refl, sym, _∙_}
+use mathlib.Core.Bool.{true, false}
 use mathlib.Core.Logic.{⊎-elim}
 use Prim.Native.Nat.{_-_}
 use native.Mathlib.Omega.{arith}
 use borrow.Author.Needs.{needs}
 use lib.ListN.{length, drop}
 use Rattle.parts.specs.Numbers.{answerNumber}
-use Rattle.parts.specs.Table.{partOf}
+use Rattle.parts.specs.Table.{Fit, partOf}
+use Rattle.serial.proofs.BitLaws.{shifted-within}
 use Rattle.selection.specs.declared.edge.Edge.the-variants.{Select, Deselect, Rise, Fall, Quiet}
 use Rattle.selection.specs.Levels.{levelsOf}
 use Rattle.spi.specs.Show.{answerAt}
+use Rattle.chip.proofs.CheckLaws.{sound-in, spi-ready}
 use Rattle.samples.specs.Samples.{samplesOf, spiOf}
+use Rattle.samples.proofs.BoundLaws.{Bound, bound-first, bound-room, bound-next, asked, before-end}
 use Rattle.samples.proofs.SamplesLaws.{end, three, more, room, Going, stops}
+use Rattle.phase_bits.specs.Field.{withBits}
+use Rattle.phase_bits.proofs.FieldLaws.{BitsIn, none-in, same-bits, one-more, none-written, fresh, selected-fresh, status-same, asleep-same, value-small, early-few, room-for-one}
 use Rattle.spi_samples.proofs.SpiLaws.{spiModel, same-model, ready, Turned, turned-length, turn}
-use Rattle.spi_samples.proofs.SteadyLaws.{Seen, clock-seen, quiet-seen}
 use Rattle.spi_samples.proofs.consecutive.spi_samples.Statement.{statement}
 use Rattle.spi_samples.proofs.consecutive.spi_samples.Tie as tie
 
 abbrev Inv-loop : tie.InvT-loop
-Inv-loop part model trace quota first start earlier memory₀ answers₀ status₀ last₀ asleep₀ shown₀ phase₀ count₀ offset₀ flag₀ memory answers status last asleep shown phase count offset flag =
-    (part ≡ partOf (model .part)) × (length memory ≡ length memory₀) × (length answers ≡ length answers₀)
-    × Going trace quota (end (length trace) earlier first start answers₀ (samplesOf (quota - first) (drop start trace) model memory₀)) (spiModel model status last asleep shown phase) flag count offset memory answers
+Inv-loop part model trace quota first start earlier memory₀ answers₀ status₀ last₀ asleep₀ shown₀ phase₀ bits₀ value₀ early₀ end₀ count₀ offset₀ flag₀ memory answers status last asleep shown phase bits value early count offset flag =
+    (part ≡ partOf (model .part)) × Fit part × (length memory ≡ length memory₀) × (length answers ≡ length answers₀) × BitsIn part phase bits value early × Bound (length trace) quota count offset end₀
+    × Going trace quota (end (length trace) earlier first start answers₀ (samplesOf (quota - first) (drop start trace) model memory₀)) (spiModel model status last asleep shown (withBits phase bits value)) flag count offset memory answers
 
 abbrev μ-loop : tie.MeasureT-loop
-μ-loop part model trace quota first start earlier memory₀ answers₀ status₀ last₀ asleep₀ shown₀ phase₀ count₀ offset₀ flag₀ memory answers status last asleep shown phase count offset flag =
+μ-loop part model trace quota first start earlier memory₀ answers₀ status₀ last₀ asleep₀ shown₀ phase₀ bits₀ value₀ early₀ end₀ count₀ offset₀ flag₀ memory answers status last asleep shown phase bits value early count offset flag =
     quota - count
+
+-- ---- at first
+
+early-of-requires : tie.Need-early-of-requires Inv-loop μ-loop
+early-of-requires c κs =
+    let start = c .before .before .before .before .before .before .before in
+    let a = start .args in
+    rw (start .pre .0) (spi-ready (a .model) (a .spi) (a .memory .now) (start .pre .1) (sound-in (a .model) (a .memory .now) (start .pre .2)) .fit)
+
+latest-requires : tie.Need-latest-requires Inv-loop μ-loop
+latest-requires c κs = c .before .before .before .before .before .before .before .before .pre .3
 
 loop-holds : tie.Need-loop-holds Inv-loop μ-loop
 loop-holds c =
-    let start = c .before .before .before .before .before in
+    let start = c .before .before .before .before .before .before .before .before .before in
     let a = start .args in
-    let e = same-model (a .model) (a .spi) (c .sample-of .result) (start .pre .1) (c .sample-of .ensures) in
-    (start .pre .0, refl, refl, record { within = start .pre .3; sound = rw e (start .pre .2); left = rw e })
+    let r = spi-ready (a .model) (a .spi) (a .memory .now) (start .pre .1) (sound-in (a .model) (a .memory .now) (start .pre .2)) in
+    let n = c .before .before .before .bits-of .ensures in
+    let v = c .before .before .value-of .ensures in
+    let e = same-model (a .model) (a .spi) (c .before .before .before .before .sample-of .result) (start .pre .1) (c .before .before .before .before .sample-of .ensures) in
+    (start .pre .0, rw (start .pre .0) (r .fit), refl, refl, record { small = rw (n, v) (value-small _ (a .spi .phase) (r .inside)); early = c .before .early-of .ensures }, rw (c .latest .ensures) (bound-first _ _ _ _ (start .pre .3)), record { within = start .pre .3; sound = rw (n, v, same-bits (a .spi .phase), e) (start .pre .2); left = rw (n, v, same-bits (a .spi .phase), e) })
 
 next-is-requires : tie.Need-next-is-requires Inv-loop μ-loop
-next-is-requires c κs = c .loop .inv .3 .within
+next-is-requires c κs = bound-room (c .loop .inv .5)
 
 -- ---- a turn: there is quota for it, and two bytes are left
 
 first-sample-requires : tie.Need-first-sample-requires Inv-loop μ-loop
 first-sample-requires c κs =
     let l = c .before .before .loop in
-    let a = c .before .before .before .before .before .before .before .before .args in
-    room 32 (answerNumber (answerAt (levelsOf (l .last)) (l .shown))) (a .quota) (l .count) (l .offset) (a .trace .now) (sym (c .before .next-is .ensures) ∙ c .if1 .taken)
+    let a = c .before .before .before .before .before .before .before .before .before .before .before .before .args in
+    bound-room (l .inv .5) (before-end (a .trace .now) 32 (answerNumber (answerAt (levelsOf (l .last)) (l .shown))) _ (l .offset) _ (c .before .next-is .ensures) (c .if1 .taken))
 
 add-count : tie.Need-add-count Inv-loop μ-loop
 add-count c =
     let next = c .before .before .before .before .before .before .before .before .before .before in
     let l = next .before .before .loop in
-    let start = next .before .before .before .before .before .before .before .before in
-    omega (arith, more 32 (answerNumber (answerAt (levelsOf (l .last)) (l .shown))) (start .args .quota) (l .count) (drop (l .offset) (start .args .trace .now)) (sym (next .before .next-is .ensures) ∙ next .if1 .taken), start .fits .quota)
+    let start = next .before .before .before .before .before .before .before .before .before .before .before .before in
+    let yes = asked (start .args .trace .now) 32 (answerNumber (answerAt (levelsOf (l .last)) (l .shown))) _ (l .offset) _ (next .before .next-is .ensures) (start .args .quota) (l .count) (l .inv .5) true (next .if1 .taken) in
+    omega (arith, more 32 (answerNumber (answerAt (levelsOf (l .last)) (l .shown))) (start .args .quota) (l .count) (drop (l .offset) (start .args .trace .now)) yes, start .fits .quota)
 
 add-offset : tie.Need-add-offset Inv-loop μ-loop
 add-offset c =
     let next = c .before .before .before .before .before .before .before .before .before .before in
     let l = next .before .before .loop in
-    let start = next .before .before .before .before .before .before .before .before in
-    omega (arith, room 32 (answerNumber (answerAt (levelsOf (l .last)) (l .shown))) (start .args .quota) (l .count) (l .offset) (start .args .trace .now) (sym (next .before .next-is .ensures) ∙ next .if1 .taken), start .good .1 .1 .1 .0 .0)
+    let start = next .before .before .before .before .before .before .before .before .before .before .before .before in
+    omega (arith, bound-room (l .inv .5) (before-end (start .args .trace .now) 32 (answerNumber (answerAt (levelsOf (l .last)) (l .shown))) _ (l .offset) _ (next .before .next-is .ensures) (next .if1 .taken)), start .good .1 .1 .1 .0 .0)
 
 loop-less : tie.Need-loop-less Inv-loop μ-loop
 loop-less c =
     let next = c .before .before .before .before .before .before .before .before .before .before in
     let l = next .before .before .loop in
-    let a = next .before .before .before .before .before .before .before .before .args in
-    omega (arith, more 32 (answerNumber (answerAt (levelsOf (l .last)) (l .shown))) (a .quota) (l .count) (drop (l .offset) (a .trace .now)) (sym (next .before .next-is .ensures) ∙ next .if1 .taken))
+    let a = next .before .before .before .before .before .before .before .before .before .before .before .before .args in
+    let yes = asked (a .trace .now) 32 (answerNumber (answerAt (levelsOf (l .last)) (l .shown))) _ (l .offset) _ (next .before .next-is .ensures) (a .quota) (l .count) (l .inv .5) true (next .if1 .taken) in
+    omega (arith, more 32 (answerNumber (answerAt (levelsOf (l .last)) (l .shown))) (a .quota) (l .count) (drop (l .offset) (a .trace .now)) yes)
 
 -- ---- what the rules ask of the state: it is ready for the next sample
 
+early-of-requires-2 : tie.Need-early-of-requires-2 Inv-loop μ-loop
+early-of-requires-2 c κs = c .before .before .before .before .before .before .before .before .before .before .loop .inv .1
+
+early-of-requires-3 : tie.Need-early-of-requires-3 Inv-loop μ-loop
+early-of-requires-3 c κs = c .before .before .before .before .before .before .before .before .before .before .before .loop .inv .1
+
+early-of-requires-4 : tie.Need-early-of-requires-4 Inv-loop μ-loop
+early-of-requires-4 c κs = c .before .before .before .before .before .before .before .before .before .before .before .before .before .before .before .before .loop .inv .1
+
+add-bits : tie.Need-add-bits Inv-loop μ-loop
+add-bits c =
+    let l = c .before .before .before .before .before .before .before .before .before .before .before .loop in
+    let few = early-few _ (l .inv .1) (l .phase) in
+    omega (arith, c .if2 .taken, l .inv .4 .early)
+
+shift-in-requires : tie.Need-shift-in-requires Inv-loop μ-loop
+shift-in-requires c κs =
+    let l = c .before .before .before .before .before .before .before .before .before .before .before .loop in
+    room-for-one _ (l .inv .1) (l .phase) (l .bits) (l .value) (rw (l .inv .4 .early) at (c .if2 .taken)) (l .inv .4 .small)
+
 rise-requires : tie.Need-rise-requires Inv-loop μ-loop
 rise-requires c κs =
-    let l = c .before .before .before .before .before .before .before .before .before .before .before .loop in
-    let a = c .before .before .before .before .before .before .before .before .before .before .before .before .before .before .before .before .before .args in
-    let r = ready (a .model) (l .status) (l .last) (l .asleep) (l .shown) (l .phase) (l .memory) (l .inv .3 .sound) in
-    rw (l .inv .0) (r .fit, r .inside, r .sized)
+    let l = c .before .before .before .before .before .before .before .before .before .before .before .before .before .loop in
+    let a = c .before .before .before .before .before .before .before .before .before .before .before .before .before .before .before .before .before .before .before .before .before .before .before .args in
+    let r = ready (a .model) (l .status) (l .last) (l .asleep) (l .shown) (withBits (l .phase) (l .bits) (l .value)) (l .memory) (l .inv .6 .sound) in
+    rw (c .before .with-bits .ensures, l .inv .0) (r .fit, r .inside, r .sized)
 
 after-fall-requires : tie.Need-after-fall-requires Inv-loop μ-loop
 after-fall-requires c κs =
-    let l = c .before .before .before .before .before .before .before .before .before .before .loop in
-    let a = c .before .before .before .before .before .before .before .before .before .before .before .before .before .before .before .before .args in
-    let r = ready (a .model) (l .status) (l .last) (l .asleep) (l .shown) (l .phase) (l .memory) (l .inv .3 .sound) in
-    rw (l .inv .0) (r .sized, r .inside)
+    let l = c .before .before .before .before .before .before .before .before .before .before .before .loop in
+    let a = c .before .before .before .before .before .before .before .before .before .before .before .before .before .before .before .before .before .before .before .before .before .args in
+    let r = ready (a .model) (l .status) (l .last) (l .asleep) (l .shown) (withBits (l .phase) (l .bits) (l .value)) (l .memory) (l .inv .6 .sound) in
+    rw (c .before .with-bits2 .ensures, l .inv .0) (r .sized, r .inside)
 
 -- ---- the next turn, by the edge that was seen
 
@@ -94,35 +135,33 @@ loop-again c =
     let levels = seen .before .before .before .levels-of in
     let next = seen .before .before .before .before .before in
     let l = next .before .before .loop in
-    let a = next .before .before .before .before .before .before .before .before .args in
-    let tested = seen .before .steady .ensures in
-    let v : Seen (before .result) (levels .result) (length (a .trace .now)) (l .flag) (l .offset) (seen .if2 .edge) (seen .if2 .flag) =
+    let a = next .before .before .before .before .before .before .before .before .before .before .before .before .args in
+    let kept = l .inv .4 in
+    let w : Turned (seen .edge-of .result) (a .part) (l .status) (spiOf (levelsOf (l .last)) (l .asleep) (l .shown) (withBits (l .phase) (l .bits) (l .value))) (levels .result) (l .memory) (now .status) (now .asleep) (now .shown) (withBits (now .phase) (now .bits) (now .value)) (now .memory) × BitsIn (a .part) (now .phase) (now .bits) (now .value) (now .early) =
     ⊎-elim
-    (λ w. rw (w .7, w .8) (clock-seen (l .last) _ (before .result) (levels .result) (before .ensures) (levels .ensures) _ _ _ (sym tested ∙ w .0 .taken) (sym (w .1 .ensures) ∙ w .2 .taken) _ (rw (w .3 .ensures, w .4 .ensures, w .5 .ensures) at (w .6 .ensures))))
+    (λ w. (record { edge = Select; seen = w .1 .given .1; memory = w .4; status = w .5; asleep = w .6; shown = w .7; phase = rw (w .8, w .9, w .10, w .2 .ensures) (selected-fresh (l .asleep)) }, rw (w .8, w .9, w .10) (none-in _ _ _ (w .11 ∙ w .3 .ensures))))
     (⊎-elim
-    (λ w. rw (w .3, w .4) (quiet-seen (l .last) _ (before .result) (levels .result) (before .ensures) (levels .ensures) _ _ _ (sym tested ∙ w .0 .taken) (sym (w .1 .ensures) ∙ w .2 .left)))
-    (λ w. record { edge = w .4 ∙ w .2 .ensures; flag = w .3 ∙ w .1 .ensures }))
-    (seen .if2 .came) in
-    let w : Turned (seen .if2 .edge) (a .part) (l .status) (spiOf (levelsOf (l .last)) (l .asleep) (l .shown) (l .phase)) (levels .result) (l .memory) (now .status) (now .asleep) (now .shown) (now .phase) (now .memory) =
-    ⊎-elim
-    (λ w. record { edge = Select; seen = w .1 .given .1; memory = w .3; status = w .4; asleep = w .5; shown = w .6; phase = w .7 ∙ w .2 .ensures })
+    (λ w. (record { edge = Deselect; seen = w .1 .given .1; memory = w .5; status = w .6 ∙ (w .2 .ensures ∙ sym (status-same (l .status) (levels .result .wp) (l .phase) (l .bits) (l .value))); asleep = w .7 ∙ (w .3 .ensures ∙ sym (asleep-same (l .asleep) (l .phase) (l .bits) (l .value))); shown = w .8; phase = rw (w .9) }, rw (w .9, w .10, w .11) (record { small = kept .small; early = w .12 ∙ w .4 .ensures })))
     (⊎-elim
-    (λ w. record { edge = Deselect; seen = w .1 .given .1; memory = w .4; status = w .5 ∙ w .2 .ensures; asleep = w .6 ∙ w .3 .ensures; shown = w .7; phase = w .8 })
+    (λ w. let few = rw (kept .early) at (w .3 .taken) in (record { edge = Rise _; seen = w .1 .given .1; memory = rw (none-written _ (l .bits) (l .value) _ (l .status) (l .phase) few) (w .5); status = w .6; asleep = w .7; shown = w .8; phase = rw (w .9, w .10, w .11, w .4 .ensures) (sym (one-more _ (l .bits) (l .value) _ (l .phase) few)) }, rw (w .9, w .10, w .11, w .12, w .4 .ensures) (record { small = shifted-within (l .bits) (l .value) (w .1 .given .0 .0) (kept .small); early = kept .early })))
     (⊎-elim
-    (λ w. record { edge = Rise _; seen = w .1 .given .1; memory = w .7 ∙ w .4 .ensures .1; status = w .8; asleep = w .9; shown = w .10; phase = w .11 ∙ w .4 .ensures .0 })
+    (λ w. let last = rw (kept .early) at (w .3 .left) in (record { edge = Rise _; seen = w .1 .given .1; memory = w .10 ∙ rw (w .4 .ensures) at (w .6 .ensures .1); status = w .11; asleep = w .12; shown = w .13; phase = rw (w .14, w .15, w .16, w .6 .ensures .0, w .4 .ensures) (fresh _ (l .bits) (l .value) _ (l .phase) last) }, rw (w .14, w .15, w .16) (none-in _ _ _ (w .17 ∙ w .9 .ensures))))
     (⊎-elim
-    (λ w. record { edge = Fall; seen = w .1 .given .1; memory = w .4; status = w .5; asleep = w .6; shown = w .7 ∙ w .3 .ensures; phase = w .8 })
-    (λ w. record { edge = Quiet; seen = w .1 .given .1; memory = w .2; status = w .3; asleep = w .4; shown = w .5; phase = w .6 }))))
+    (λ w. (record { edge = Fall; seen = w .1 .given .1; memory = w .5; status = w .6; asleep = w .7; shown = w .8 ∙ rw (w .2 .ensures) at (w .4 .ensures); phase = rw (w .9, w .10, w .11) }, rw (w .9, w .10, w .11, w .12) kept))
+    (λ w. (record { edge = Quiet; seen = w .1 .given .1; memory = w .2; status = w .3; asleep = w .4; shown = w .5; phase = rw (w .6, w .7, w .8) }, rw (w .6, w .7, w .8, w .9) kept))))))
     (now .came) in
-    (l .inv .0, turned-length w ∙ l .inv .1, c .before .before .note-shown .kept .0 ∙ l .inv .2, turn (a .model) (l .status) (l .last) (l .asleep) (l .shown) (l .phase) (l .memory) (l .inv .3) (sym (next .before .next-is .ensures) ∙ next .if1 .taken) (a .part) (l .inv .0) (seen .before .before .before .before .first-sample .result) (seen .before .before .before .before .first-sample .ensures) (before .result) (levels .result) (before .ensures) (levels .ensures) (seen .if2 .edge) (v .edge) _ (now .status) (now .asleep) (now .shown) (now .phase) (now .memory) _ (v .flag) w (c .before .before .note-shown .ensures))
+    let yes = asked (a .trace .now) 32 (answerNumber (answerAt (levelsOf (l .last)) (l .shown))) _ (l .offset) _ (next .before .next-is .ensures) (a .quota) (l .count) (l .inv .5) true (next .if1 .taken) in
+    (l .inv .0, l .inv .1, turned-length (w .0) ∙ l .inv .2, c .before .before .note-shown .kept .0 ∙ l .inv .3, w .1, bound-next (l .inv .5) (before-end (a .trace .now) 32 (answerNumber (answerAt (levelsOf (l .last)) (l .shown))) _ (l .offset) _ (next .before .next-is .ensures) (next .if1 .taken)), turn (a .model) (l .status) (l .last) (l .asleep) (l .shown) (withBits (l .phase) (l .bits) (l .value)) (l .memory) (l .inv .6) yes (a .part) (l .inv .0) (seen .before .before .before .before .first-sample .result) (seen .before .before .before .before .first-sample .ensures) (before .result) (levels .result) (before .ensures) (levels .ensures) (seen .edge-of .result) (seen .edge-of .ensures) _ (now .status) (now .asleep) (now .shown) (withBits (now .phase) (now .bits) (now .value)) (now .memory) _ (seen .before .flag-after .ensures) (w .0) (c .before .before .note-shown .ensures))
 
 -- ---- at the end nothing is left
 
 returns : tie.Need-returns Inv-loop μ-loop
 returns c =
-    let l = c .before .before .before .before .loop in
-    let e = three _ _ (stops (l .inv .3) 32 (answerNumber (answerAt (levelsOf (l .last)) (l .shown))) (λ u. refl) (sym (c .before .before .before .next-is .ensures) ∙ c .before .before .if1 .left)) in
-    (c .progress-at .ensures ∙ rw (c .before .on-bus .ensures) (e .0), (e .1, e .2))
+    let l = c .before .before .before .before .before .loop in
+    let a = c .before .before .before .before .before .before .before .before .before .before .before .before .before .before .before .args in
+    let no = asked (a .trace .now) 32 (answerNumber (answerAt (levelsOf (l .last)) (l .shown))) _ (l .offset) _ (c .before .before .before .before .next-is .ensures) (a .quota) (l .count) (l .inv .5) false (c .before .before .before .if1 .left) in
+    let e = three _ _ (stops (l .inv .6) 32 (answerNumber (answerAt (levelsOf (l .last)) (l .shown))) (λ u. refl) no) in
+    (c .progress-at .ensures ∙ rw (c .before .on-bus .ensures, c .before .before .with-bits3 .ensures) (e .0), (e .1, e .2))
 
 pub spi-samples-spec : {M : Type 1} → statement M
 spi-samples-spec =
@@ -131,6 +170,10 @@ spi-samples-spec =
     Inv-loop
     μ-loop
     (λ c κs. search needs)
+    (λ c κs. search needs)
+    (λ c κs. search needs)
+    early-of-requires
+    latest-requires
     loop-holds
     next-is-requires
     first-sample-requires
@@ -138,20 +181,21 @@ spi-samples-spec =
     (λ c κs. search needs)
     (λ c κs. search needs)
     (λ c κs. search needs)
-    (λ c κs. search needs)
-    (λ c κs. search needs)
-    (λ c κs. search needs)
-    (λ c κs. search needs)
-    (λ c κs. search needs)
-    (λ c κs. search needs)
     (λ c. search needs)
     (λ c κs. search needs)
+    early-of-requires-2
     (λ c. search needs)
     (λ c κs. search needs)
     (λ c κs. search needs)
+    early-of-requires-3
     (λ c. search needs)
+    add-bits
+    shift-in-requires
+    (λ c κs. search needs)
     rise-requires
+    early-of-requires-4
     (λ c. search needs)
+    (λ c κs. search needs)
     after-fall-requires
     (λ c. search needs)
     (λ c κs. search needs)
@@ -159,6 +203,7 @@ spi-samples-spec =
     add-offset
     loop-less
     loop-again
+    (λ c κs. search needs)
     (λ c κs. search needs)
     (λ c κs. search needs)
     (λ c. search needs)
