@@ -10,12 +10,14 @@ pub mod byte_call;
 pub mod call;
 pub mod field;
 pub mod flags;
+pub mod loaded;
 pub mod more;
 mod outcome;
 mod quota;
 pub mod refused;
 pub mod renumber;
 pub mod script;
+pub mod streams;
 pub mod tally;
 pub mod told;
 
