@@ -39,6 +39,7 @@ pub fn i2c_samples(
     let mut pulling = i2c.pulling;
     let mut buffer = i2c.buffer;
     let mut phase = i2c.phase;
+    // the rises and bits of the byte that the phase takes or sends, in the place of its own
     let mut bits = phase_bits::byte::bits_of(phase);
     let mut value = phase_bits::byte::value_of(phase);
     let end = samples::progress::latest(trace.len(), quota, first, start);

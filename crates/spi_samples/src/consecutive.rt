@@ -39,6 +39,7 @@ pub fn spi_samples(
     let mut asleep = spi.asleep;
     let mut shown = spi.shown;
     let mut phase = spi.phase;
+    // the bits of what the phase takes or shows, in the place of its own, and how many of them come before the last
     let mut bits = phase_bits::field::bits_of(phase);
     let mut value = phase_bits::field::value_of(phase);
     let mut early = phase_bits::field::early_of(part, phase);
