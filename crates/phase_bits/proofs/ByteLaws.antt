@@ -3,9 +3,7 @@
 use Prim.Native.Nat.{ℕ, _+_, _^_, _<_, _≤_}
 use mathlib.Core.Path.{_≡_, refl}
 use mathlib.Core.Bool.{Bool, true, false}
-use native.Mathlib.Nat.{one-le-pow}
 use native.Mathlib.Omega.{arith}
-use lib.Dec.{ltb}
 use borrow.Author.Tests.{lt-ltb, le-ltb}
 use Rattle.parts.specs.declared.part.Part.{Part}
 use Rattle.serial.specs.declared.write.Write.the-variants.{Nothing}
@@ -26,6 +24,7 @@ use Rattle.transfer.specs.Ranges.{PhaseIn}
 use Rattle.transfer.specs.Word.{wordOf}
 use Rattle.i2c.specs.Store.{riseWrite}
 use Rattle.phase_bits.specs.Byte.{bitsOf, valueOf, withBits}
+use Rattle.phase_bits.proofs.FieldLaws.{one-small}
 
 pub same-bits : (ph : Phase) → withBits ph (bitsOf ph) (valueOf ph) ≡ ph
 same-bits Rest = refl
@@ -84,9 +83,6 @@ flag-same (Taking f m u) n v before now = refl
 flag-same (Sending a m) n v before now = refl
 
 -- ---- the number that the bits make is small
-
-one-small : (n : ℕ) → 0 < 2 ^ n
-one-small n = one-le-pow n 2 (omega arith)
 
 pub value-small : (p : Part) (ph : Phase) → PhaseIn p ph → valueOf ph < 2 ^ bitsOf ph
 value-small p Rest h = omega arith

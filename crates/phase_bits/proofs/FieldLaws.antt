@@ -2,10 +2,9 @@
 -- the last one leaves a phase without bits. By the phase. Assumes nothing.
 use Prim.Native.Nat.{ℕ, _+_, _-_, _^_, _<_, _≤_}
 use mathlib.Core.Path.{_≡_, refl}
-use mathlib.Core.Bool.{Bool, true, false, cond}
+use mathlib.Core.Bool.{Bool, true, false}
 use native.Mathlib.Nat.{one-le-pow}
 use native.Mathlib.Omega.{arith}
-use lib.Dec.{ltb}
 use borrow.Author.Tests.{lt-ltb, le-ltb}
 use Rattle.parts.specs.declared.part.Part.{Part}
 use Rattle.parts.specs.declared.status.Status.{Status}
@@ -115,7 +114,7 @@ asleep-same false (Waiting a) n v = refl
 
 -- ---- the number that the bits make is small
 
-one-small : (n : ℕ) → 0 < 2 ^ n
+pub one-small : (n : ℕ) → 0 < 2 ^ n
 one-small n = one-le-pow n 2 (omega arith)
 
 pub value-small : (p : Part) (ph : Phase) → PhaseIn p ph → valueOf ph < 2 ^ bitsOf ph

@@ -6,6 +6,7 @@
 
 use drive::loaded::Loaded;
 use drive::streams::{kinds, Stream};
+use std::fs::DirEntry;
 use std::hint::black_box;
 use std::path::Path;
 use std::process::ExitCode;
@@ -38,15 +39,11 @@ fn main() -> ExitCode {
 fn load(folder: &str) -> Result<Build, String> {
     let fault = |error| format!("{folder}: {error}");
     let listed = std::fs::read_dir(folder).map_err(fault)?;
-    let paths: Result<Vec<_>, _> = listed.map(|entry| entry.map(|it| it.path())).collect();
-    let places: Result<Vec<Loaded>, String> =
-        paths.map_err(fault)?.iter().map(|path| Loaded::open(path)).collect();
+    let each = |entry: std::io::Result<DirEntry>| Loaded::open(&entry.map_err(fault)?.path());
+    let places = listed.map(each).collect::<Result<_, _>>()?;
     let name = Path::new(folder).file_name();
     let name = name.map_or_else(String::new, |it| it.to_string_lossy().into_owned());
-    Ok(Build {
-        name,
-        places: places?,
-    })
+    Ok(Build { name, places })
 }
 
 fn table(rounds: usize, builds: &[Build]) -> ExitCode {

@@ -1,5 +1,4 @@
 -- `early_of` meets its contract: a field has a last bit. Assumes nothing.
-use native.Mathlib.Omega.{arith}
 use borrow.Author.Needs.{needs}
 use Rattle.spi.proofs.Keeps.{width-wide}
 use Rattle.phase_bits.proofs.field.early_of.Statement.{statement}

@@ -17,7 +17,7 @@ use Rattle.spi.specs.Show.{answerAt}
 use Rattle.chip.proofs.CheckLaws.{sound-in, spi-ready}
 use Rattle.samples.specs.Samples.{samplesOf, spiOf}
 use Rattle.samples.proofs.BoundLaws.{Bound, bound-first, bound-room, bound-next, asked, before-end}
-use Rattle.samples.proofs.SamplesLaws.{end, three, more, room, Going, stops}
+use Rattle.samples.proofs.SamplesLaws.{end, three, more, Going, stops}
 use Rattle.phase_bits.specs.Field.{withBits}
 use Rattle.phase_bits.proofs.FieldLaws.{BitsIn, none-in, same-bits, one-more, none-written, fresh, selected-fresh, status-same, asleep-same, value-small, early-few, room-for-one}
 use Rattle.spi_samples.proofs.SpiLaws.{spiModel, same-model, ready, Turned, turned-length, turn}
