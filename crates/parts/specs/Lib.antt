@@ -1,3 +1,4 @@
 pub mod Table
 pub mod Status
+pub mod Blocks
 pub mod Numbers

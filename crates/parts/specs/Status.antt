@@ -1,7 +1,6 @@
 -- The status register of an SPI part: the byte that it reads as, and where block protection begins.
-use Prim.Native.Nat.{ℕ, _+_, _*_}
+use Prim.Native.Nat.{ℕ, _+_, _-_, _*_, _/_}
 use mathlib.Core.Bool.{Bool, true, false}
-use lib.ListN.{getD}
 use Rattle.parts.specs.declared.part.Part.{Part}
 use Rattle.parts.specs.declared.status.Status.{Status}
 
@@ -21,9 +20,16 @@ statusByte s = 128 * bit (s .srwd) + 8 * bit (s .bp1) + 4 * bit (s .bp0) + 2 * b
 abbrev pub blockBits : Status → ℕ
 blockBits s = 2 * bit (s .bp1) + bit (s .bp0)
 
+-- how much of a memory is protected, by BP1, BP0 and its size: nothing, the top quarter, the top half, all
+abbrev pub protectedBytes : Bool → Bool → ℕ → ℕ
+protectedBytes false false size = 0
+protectedBytes false true size = size / 4
+protectedBytes true false size = size / 2
+protectedBytes true true size = size
+
 -- block protection covers the addresses from here to the top; for BP1 BP0 = 00 this is the size, so that it covers none
 unfoldable pub protectedStart : Status → Part → ℕ
-protectedStart s p = getD (p .starts) (blockBits s) 0
+protectedStart s p = p .size - protectedBytes (s .bp1) (s .bp0) (p .size)
 
 abbrev pub withWel : Status → Bool → Status
 withWel s w = record { srwd = s .srwd; bp1 = s .bp1; bp0 = s .bp0; wel = w }

@@ -27,7 +27,6 @@ mr45v032a =
       sleep = false;
       identity = 0 ∷ 0 ∷ 0 ∷ [];
       saved = false;
-      starts = 4096 ∷ 0xc00 ∷ 0x800 ∷ 0 ∷ [];
     }
 
 -- sheet 000
@@ -44,7 +43,6 @@ mr45v100a =
       sleep = true;
       identity = 0xae ∷ 0x83 ∷ 0x9 ∷ [];
       saved = true;
-      starts = 131072 ∷ 0x18000 ∷ 0x10000 ∷ 0 ∷ [];
     }
 
 -- sheet 004
@@ -61,7 +59,6 @@ mr45v200b =
       sleep = false;
       identity = 0xae ∷ 0x83 ∷ 0x1a ∷ [];
       saved = true;
-      starts = 262144 ∷ 0x30000 ∷ 0x20000 ∷ 0 ∷ [];
     }
 
 -- sheet 001
@@ -78,7 +75,6 @@ mr44v064b =
       sleep = false;
       identity = 0 ∷ 0 ∷ 0 ∷ [];
       saved = false;
-      starts = 8192 ∷ 8192 ∷ 8192 ∷ 8192 ∷ [];
     }
 
 -- sheet 002
@@ -95,7 +91,6 @@ ms85rc1mty =
       sleep = false;
       identity = 0 ∷ 0 ∷ 0 ∷ [];
       saved = false;
-      starts = 131072 ∷ 131072 ∷ 131072 ∷ 131072 ∷ [];
     }
 
 -- an empty row, which a number past the table stands for
@@ -112,7 +107,6 @@ noPart =
       sleep = false;
       identity = [];
       saved = false;
-      starts = [];
     }
 
 -- in the order of the part numbers

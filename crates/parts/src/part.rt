@@ -37,8 +37,6 @@ pub struct Part {
     pub identity: [u8; 3],
     // whether SRWD, BP1 and BP0 survive power loss
     pub saved: bool,
-    // the first protected address for BP1 BP0 = 00, 01, 10, 11
-    pub starts: [u32; 4],
 }
 
 // In the order of the part numbers.
@@ -55,7 +53,6 @@ pub const PARTS: [Part; 5] = [
         sleep: false,
         identity: [0, 0, 0],
         saved: false,
-        starts: [4096, 0xc00, 0x800, 0],
     },
     // MR45V100A, sheet 000
     Part {
@@ -69,7 +66,6 @@ pub const PARTS: [Part; 5] = [
         sleep: true,
         identity: [0xae, 0x83, 0x9],
         saved: true,
-        starts: [131072, 0x18000, 0x10000, 0],
     },
     // MR45V200B, sheet 004
     Part {
@@ -83,7 +79,6 @@ pub const PARTS: [Part; 5] = [
         sleep: false,
         identity: [0xae, 0x83, 0x1a],
         saved: true,
-        starts: [262144, 0x30000, 0x20000, 0],
     },
     // MR44V064B, sheet 001
     Part {
@@ -97,7 +92,6 @@ pub const PARTS: [Part; 5] = [
         sleep: false,
         identity: [0, 0, 0],
         saved: false,
-        starts: [8192, 8192, 8192, 8192],
     },
     // MS85RC1MTY, sheet 002
     Part {
@@ -111,7 +105,6 @@ pub const PARTS: [Part; 5] = [
         sleep: false,
         identity: [0, 0, 0],
         saved: false,
-        starts: [131072, 131072, 131072, 131072],
     },
 ];
 

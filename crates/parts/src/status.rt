@@ -42,13 +42,17 @@ impl Status {
         2 * bit_of(self.bp1) + bit_of(self.bp0)
     }
 
-    // The first protected address, or the size if none is protected.
+    // The first protected address, or the size if none is protected: the size less nothing, the top quarter, the top half, all.
     pub fn protected_start(self, part: Part) -> u32
         ensures { λ r. ⌜ r ≡ protectedStart self part ⌝ }
     {
-        let starts = part.starts;
-        let at = self.block_bits() as usize;
-        starts[at]
+        let size = part.size;
+        match self.block_bits() {
+            0b00 => size - 0,
+            0b01 => size - size / 4,
+            0b10 => size - size / 2,
+            _ => size - size,
+        }
     }
 
     pub fn with_wel(self, wel: bool) -> Status

@@ -13,8 +13,8 @@ use serial::write::Write;
 fn permit(part: Part, status: Status, address: u32, value: u8) -> Write
     ensures { λ r. ⌜ r ≡ permitted part status address value ⌝ }
 {
-    if status.wel {
-        if address < status.protected_start(part) {
+    if address < status.protected_start(part) {
+        if status.wel {
             Write::Byte { address, value }
         } else {
             Write::Nothing

@@ -59,9 +59,10 @@ pub fn rise(part: Part, status: Status, phase: Phase, si: bool, memory: &mut [u8
     ensures phase { λ r. ⌜ r ≡ afterRise part phase si ⌝ }
     ensures memory { λ r. ⌜ now (memory .exit) ≡ applied (riseWrite part status phase si) (now (memory .entry)) ⌝ }
 {
+    let next = selection::rise::after_rise(part, phase, si);
     let write = spi::store::rise_write(part, status, phase, si);
     serial::write::apply(write, memory);
-    selection::rise::after_rise(part, phase, si)
+    next
 }
 
 // Whether offset lies before the end, and there is a sample, or the present answer is expected.
