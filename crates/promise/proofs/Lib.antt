@@ -10,6 +10,7 @@ pub mod Demand3
 pub mod Grows
 pub mod Corollaries
 pub mod BitSteps
+pub mod Blocks
 pub mod I2cAnswers
 pub mod I2cSaid
 pub mod I2cSends

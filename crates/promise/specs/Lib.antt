@@ -12,6 +12,7 @@ pub mod Flags
 pub mod Reached
 pub mod Corollaries
 pub mod BitSteps
+pub mod Blocks
 pub mod SpiBytes
 pub mod Selects
 pub mod SelectSteps
