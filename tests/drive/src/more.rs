@@ -200,7 +200,7 @@ fn borders() -> Vec<Shown> {
 /// Part 0 gets its bits by WRSR, the others at their making.
 fn border(part: u32, bp: u8) -> Shown {
     let table = &PARTS[part as usize];
-    let from = table.protected_from[usize::from(bp)];
+    let from = table.protected_from(bp);
     let below = (from + table.size - 1) % table.size;
     let what = format!("BP {bp:02b}: two bytes over the start at {from:05X}h");
     let bits = if part == 0 { 0 } else { u32::from(bp) };

@@ -122,7 +122,7 @@ impl Spi {
     fn take_data(&mut self, input: &[u8], data: &[u8], memory: &mut [u8]) {
         let enabled = std::mem::take(&mut self.wel);
         if let (Some(address), true) = (address(self.part, input), enabled) {
-            let protected_from = self.part.protected_from[usize::from(self.bits & 3)];
+            let protected_from = self.part.protected_from(self.bits);
             store_round(memory, protected_from, address, data);
         }
     }

@@ -345,10 +345,21 @@ impl<'a> Bench<'a> {
     }
 }
 
+/// Where the protected range starts with drawn block bits. I2C parts have no block protection, and
+/// their bits are 0; the draw is made for them too, since a seed would give another trace without it.
+fn protected_border(rng: &mut Rng, part: &Part) -> u32 {
+    let drawn = rng.below(4) as u8;
+    let bits = match part.wires {
+        Wires::Spi => drawn,
+        Wires::I2c => 0,
+    };
+    part.protected_from(bits) as u32
+}
+
 /// An address near a border, near the top, near 0, or any; sometimes past the size.
 fn border_address(rng: &mut Rng, part: &Part) -> u32 {
     let size = part.size as u32;
-    let border = rng.pick(&part.protected_from) as u32;
+    let border = protected_border(rng, part);
     let near = rng.pick(&[border, size, 0x10000, 0, size / 2]);
     let step = rng.below(4) as u32;
     match rng.below(5) {

@@ -1,7 +1,7 @@
 //! "The ledger of demand 3": what memory and saved bits a cut leaves, told over selections and
 //! starts. It is fed the accepted events with their answers and calls nothing of the model; only
-//! the part table, the codes and the bits of a sample are shared. By the same means it tells of each
-//! event whether it has the warning flag.
+//! the part table, the protected ranges, the codes and the bits of a sample are shared. By the same
+//! means it tells of each event whether it has the warning flag.
 
 use crate::part::{i2c_pin, spi_pin, Op, Part, Wires, PARTS};
 
@@ -158,7 +158,7 @@ impl Ledger {
         let behind = (bits.len() - head) / 8 - 1;
         let address = (number(&bits[8..head]) + behind) % self.part.size;
         let byte = number(&bits[bits.len() - 8..]) as u8;
-        if address < self.part.protected_from[usize::from(self.bits % 4)] {
+        if address < self.part.protected_from(self.bits) {
             self.store(address, byte);
         }
     }

@@ -1,4 +1,5 @@
-//! "The five parts": the one constant table, the SPI codes and the bits of a sample.
+//! "The five parts": the one constant table, the protected ranges, the SPI codes and the bits of a
+//! sample.
 
 /// The bits of an SPI sample.
 pub mod spi_pin {
@@ -66,8 +67,6 @@ pub struct Part {
     pub max_bits: u32,
     /// Whether the status bits outlive a loss of power.
     pub keeps_bits: bool,
-    /// Where the protected range starts, by BP1 BP0; the size itself for 00.
-    pub protected_from: [usize; 4],
 }
 
 pub static PARTS: [Part; 5] = [
@@ -82,7 +81,6 @@ pub static PARTS: [Part; 5] = [
         max_pins: 0,
         max_bits: 0,
         keeps_bits: false,
-        protected_from: [0x1000, 0xc00, 0x800, 0],
     },
     Part {
         number: 1,
@@ -95,7 +93,6 @@ pub static PARTS: [Part; 5] = [
         max_pins: 0,
         max_bits: 7,
         keeps_bits: true,
-        protected_from: [0x20000, 0x18000, 0x10000, 0],
     },
     Part {
         number: 2,
@@ -108,7 +105,6 @@ pub static PARTS: [Part; 5] = [
         max_pins: 0,
         max_bits: 7,
         keeps_bits: true,
-        protected_from: [0x40000, 0x30000, 0x20000, 0],
     },
     Part {
         number: 3,
@@ -121,7 +117,6 @@ pub static PARTS: [Part; 5] = [
         max_pins: 7,
         max_bits: 0,
         keeps_bits: false,
-        protected_from: [0x2000; 4],
     },
     Part {
         number: 4,
@@ -134,7 +129,6 @@ pub static PARTS: [Part; 5] = [
         max_pins: 3,
         max_bits: 0,
         keeps_bits: false,
-        protected_from: [0x20000; 4],
     },
 ];
 
@@ -177,8 +171,20 @@ impl Part {
         }
     }
 
+    /// Where the protected range starts with these bits (SRWD BP1 BP0). By BP1 BP0 it is none of the
+    /// memory, the upper quarter, the upper half or all; none starts at the size itself.
+    pub fn protected_from(&self, bits: u8) -> usize {
+        let protected = match bits & 0b11 {
+            0b00 => 0,
+            0b01 => self.size / 4,
+            0b10 => self.size / 2,
+            _ => self.size,
+        };
+        self.size - protected
+    }
+
     /// Whether these bits (SRWD BP1 BP0) protect this address.
     pub fn protects(&self, bits: u8, address: usize) -> bool {
-        address >= self.protected_from[usize::from(bits & 3)]
+        address >= self.protected_from(bits)
     }
 }

@@ -130,7 +130,7 @@ fn near_borders(part: u32) -> impl Iterator<Item = usize> {
     let near = move |border: usize| {
         [1, 0, -1, -2, -300].map(|more| (border + table.size).wrapping_add_signed(more))
     };
-    table.protected_from.into_iter().flat_map(near)
+    (0..4).flat_map(move |bits| near(table.protected_from(bits)))
 }
 
 /// Reads and writes at an address, of no data, of little, and of so much that it reaches a border.

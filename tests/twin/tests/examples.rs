@@ -208,7 +208,28 @@ fn saved_bits_by_part() {
     }
 }
 
-/// The twelve starting points: a WRITE over each stores below it and nothing from it on.
+/// WREN, and a WRITE of two bytes over a starting point, the first to the address before it (the top
+/// if the point is 0). What lies below the point is stored, what lies from it on is not, and no other
+/// address changes.
+fn write_over(bus: &mut Bus, from: usize, about: &str) {
+    let table = bus.model.part();
+    let before = (from + table.size - 1) % table.size;
+    let mut expected = bus.memory.clone();
+    let mut input = table.addressed(2, before);
+    for address in [before, from % table.size] {
+        // Another byte than is there, so that it shows whether it is stored.
+        let byte = !expected[address];
+        input.push(byte);
+        if address < from {
+            expected[address] = byte;
+        }
+    }
+    bus.command(&[6]);
+    bus.command(&input);
+    assert!(bus.memory == expected, "{about}");
+}
+
+/// The twelve starting points of the protected ranges, the size itself for 00.
 #[test]
 fn protected_ranges() {
     let starts = [
@@ -219,19 +240,10 @@ fn protected_ranges() {
     for (part, starts) in starts {
         for (bp, from) in (0..).zip(starts) {
             let mut bus = Bus::spi(part, 0);
-            let size = bus.memory.len();
+            assert_eq!(starts[0], bus.memory.len());
             bus.command(&[6]);
             bus.command(&[1, bp << 2]);
-            let below = (from + size - 1) % size;
-            let address = (below as u32).to_be_bytes();
-            let address = &address[if part == 0 { 2 } else { 1 }..];
-            bus.memory[below] = 0;
-            bus.memory[from % size] = 0;
-            bus.command(&[6]);
-            bus.command(&[&[2], address, &[0x5a, 0xa5]].concat());
-            let stored = (bus.memory[below], bus.memory[from % size]);
-            let expected = [(0x5a, 0xa5), (0x5a, 0), (0x5a, 0), (0, 0)];
-            assert_eq!(stored, expected[usize::from(bp)], "part {part} BP {bp}");
+            write_over(&mut bus, from, &format!("part {part} BP {bp:02b}"));
         }
     }
 }
