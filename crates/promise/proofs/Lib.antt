@@ -11,6 +11,7 @@ pub mod Grows
 pub mod Corollaries
 pub mod BitSteps
 pub mod Blocks
+pub mod BlocksExample
 pub mod I2cAnswers
 pub mod I2cSaid
 pub mod I2cSends
