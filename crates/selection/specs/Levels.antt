@@ -1,6 +1,7 @@
 -- The pins in an SPI sample, from its lowest bit up: CS#, SCK, SI, WP#, HOLD#. A 1 is high.
-use Prim.Native.Nat.{ℕ, _/_, _%_}
+use Prim.Native.Nat.{ℕ, _+_, _*_, _/_, _%_}
 use lib.Dec.{eqb}
+use Rattle.parts.specs.Status.{bit}
 use Rattle.selection.specs.declared.levels.Levels.{Levels}
 
 abbrev pub levelsOf : ℕ → Levels
@@ -12,3 +13,7 @@ levelsOf x =
       wp = eqb (x / 8 % 2) 1;
       hold = eqb (x / 16 % 2) 1;
     }
+
+-- the sample that has these levels
+abbrev pub sampleOf : Levels → ℕ
+sampleOf l = bit (l .cs) + 2 * bit (l .sck) + 4 * bit (l .si) + 8 * bit (l .wp) + 16 * bit (l .hold)

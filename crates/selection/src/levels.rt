@@ -1,6 +1,6 @@
 // The pin levels of one sample.
 ghost use mathlib.Core.Path.{_≡_};
-ghost use Rattle.selection.specs.Levels.{levelsOf};
+ghost use Rattle.selection.specs.Levels.{levelsOf, sampleOf};
 
 pub struct Levels {
     pub cs: bool,
@@ -24,7 +24,7 @@ pub fn levels_of(sample: u8) -> Levels
 
 // The sample that has these levels.
 pub fn sample_of(levels: Levels) -> u8
-    ensures { λ r. ⌜ levelsOf r ≡ levels ⌝ }
+    ensures { λ r. ⌜ (r ≡ sampleOf levels) × (levelsOf r ≡ levels) ⌝ }
 {
     parts::status::bit_of(levels.cs)
         + 2 * parts::status::bit_of(levels.sck)

@@ -1,6 +1,6 @@
 // The levels of one sample; SDA is without the part's own pull.
 ghost use mathlib.Core.Path.{_≡_};
-ghost use Rattle.transfer.specs.Levels.{levelsOf};
+ghost use Rattle.transfer.specs.Levels.{levelsOf, sampleOf};
 
 pub struct Levels {
     pub scl: bool,
@@ -20,7 +20,7 @@ pub fn levels_of(sample: u8) -> Levels
 
 // The sample that has these levels.
 pub fn sample_of(levels: Levels) -> u8
-    ensures { λ r. ⌜ levelsOf r ≡ levels ⌝ }
+    ensures { λ r. ⌜ (r ≡ sampleOf levels) × (levelsOf r ≡ levels) ⌝ }
 {
     parts::status::bit_of(levels.scl)
         + 2 * parts::status::bit_of(levels.sda)

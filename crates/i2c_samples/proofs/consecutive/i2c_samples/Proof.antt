@@ -52,7 +52,7 @@ loop-holds c =
     let r = i2c-ready (a .model) (a .i2c) (a .memory .now) (start .pre .1) (sound-in (a .model) (a .memory .now) (start .pre .2)) in
     let n = c .before .before .bits-of .ensures in
     let v = c .before .value-of .ensures in
-    let e = same-model (a .model) (a .i2c) (c .before .before .before .before .sample-of .result) (start .pre .1) (c .before .before .before .before .sample-of .ensures) in
+    let e = same-model (a .model) (a .i2c) (c .before .before .before .before .sample-of .result) (start .pre .1) (c .before .before .before .before .sample-of .ensures .1) in
     (start .pre .0, refl, refl, rw (n, v) (value-small _ (a .i2c .phase) (r .inside)), rw (c .latest .ensures) (bound-first _ _ _ _ (start .pre .3)), record { within = start .pre .3; sound = rw (n, v, same-bits (a .i2c .phase), e) (start .pre .2); left = rw (n, v, same-bits (a .i2c .phase), e) })
 
 next-is-requires : tie.Need-next-is-requires Inv-loop μ-loop

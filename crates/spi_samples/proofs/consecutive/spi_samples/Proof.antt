@@ -51,7 +51,7 @@ loop-holds c =
     let r = spi-ready (a .model) (a .spi) (a .memory .now) (start .pre .1) (sound-in (a .model) (a .memory .now) (start .pre .2)) in
     let n = c .before .before .before .bits-of .ensures in
     let v = c .before .before .value-of .ensures in
-    let e = same-model (a .model) (a .spi) (c .before .before .before .before .sample-of .result) (start .pre .1) (c .before .before .before .before .sample-of .ensures) in
+    let e = same-model (a .model) (a .spi) (c .before .before .before .before .sample-of .result) (start .pre .1) (c .before .before .before .before .sample-of .ensures .1) in
     (start .pre .0, rw (start .pre .0) (r .fit), refl, refl, record { small = rw (n, v) (value-small _ (a .spi .phase) (r .inside)); early = c .before .early-of .ensures }, rw (c .latest .ensures) (bound-first _ _ _ _ (start .pre .3)), record { within = start .pre .3; sound = rw (n, v, same-bits (a .spi .phase), e) (start .pre .2); left = rw (n, v, same-bits (a .spi .phase), e) })
 
 next-is-requires : tie.Need-next-is-requires Inv-loop μ-loop

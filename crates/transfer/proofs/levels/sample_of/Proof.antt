@@ -1,13 +1,12 @@
 -- `sample_of` meets its contract. Assumes nothing.
-use Rattle.transfer.proofs.LevelLaws.{levels-back}
+use Rattle.transfer.proofs.LevelLaws.{sample-back}
 use borrow.Author.Needs.{needs}
 use Rattle.transfer.proofs.levels.sample_of.Statement.{statement}
 use Rattle.transfer.proofs.levels.sample_of.Tie as tie
 
 returns : tie.Need-returns
 returns c =
-    let l = c .before .before .before .args .levels in
-    rw (c .bit-of3 .ensures .0, c .before .bit-of2 .ensures .0, c .before .before .bit-of .ensures .0) (levels-back (l .scl) (l .sda) (l .wp))
+    (simp (c .bit-of3 .ensures .0, c .before .bit-of2 .ensures .0, c .before .before .bit-of .ensures .0), rw (c .bit-of3 .ensures .0, c .before .bit-of2 .ensures .0, c .before .before .bit-of .ensures .0) (sample-back (c .before .before .before .args .levels)))
 
 pub sample-of-spec : {M : Type 1} → statement M
 sample-of-spec =
