@@ -1,0 +1,3 @@
+pub mod Bytes
+pub mod Layout
+pub mod Taken

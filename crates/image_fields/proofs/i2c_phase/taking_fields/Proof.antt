@@ -1,0 +1,35 @@
+-- `taking_fields` meets its contract. Assumes nothing.
+use borrow.Author.Needs.{needs}
+use Rattle.image_fields.proofs.i2c_phase.taking_fields.Statement.{statement}
+use Rattle.image_fields.proofs.i2c_phase.taking_fields.Tie as tie
+
+returns : tie.Need-returns
+returns c = simp (c .with-address .ensures, c .before .enum-told .given .1)
+
+returns-2 : tie.Need-returns-2
+returns-2 c = simp (c .with-address2 .ensures, c .before .a16-address .ensures, c .before .before .before .field .given .1)
+
+returns-3 : tie.Need-returns-3
+returns-3 c = simp (c .with-address3 .ensures, c .before .a16-address2 .ensures, c .before .before .before .field2 .given .1)
+
+returns-4 : tie.Need-returns-4
+returns-4 c = simp (c .with-address4 .ensures, c .before .before .field3 .given .1)
+
+pub taking-fields-spec : {M : Type 1} → statement M
+taking-fields-spec =
+    tie.close
+    (tie.spec
+    (λ c. search needs)
+    (λ c κs. search needs)
+    (λ c. search needs)
+    (λ c κs. search needs)
+    (λ c κs. search needs)
+    (λ c. search needs)
+    (λ c κs. search needs)
+    (λ c κs. search needs)
+    (λ c. search needs)
+    (λ c κs. search needs)
+    returns
+    returns-2
+    returns-3
+    returns-4)
