@@ -1,0 +1,82 @@
+-- Fields that are those of the state that they read as, field by field; a sample is that of its levels; and nothing is said of one that is not
+-- done. Assumes nothing.
+use Prim.Native.Nat.{ℕ, zero, suc, _/_, _%_, _<_}
+use mathlib.Core.Path.{_≡_, refl, ap}
+use mathlib.Core.Bool.{Bool, true, false}
+use native.Mathlib.Omega.{arith}
+use lib.Dec.{eqb}
+use Rattle.parts.specs.declared.answer.Answer.{Answer}
+use Rattle.parts.specs.declared.answer.Answer.the-variants.{Low, High, HighZ}
+use Rattle.parts.specs.Numbers.{answerNumber}
+use Rattle.parts.specs.Status.{bit, statusByte}
+use Rattle.selection.specs.Levels as SpiLevels
+use Rattle.transfer.specs.Levels as I2cLevels
+use Rattle.i2c.specs.Sample.{answerOf}
+use Rattle.image_fields.specs.declared.fields.Fields.{Fields}
+use Rattle.image_fields.specs.SpiPhase as SpiPhase
+use Rattle.image_fields.specs.I2cPhase as I2cPhase
+use Rattle.image_fields.specs.State.{fieldsOf, statusIn, answerIn, stateIn}
+
+-- ---- what a field reads as has that field
+
+pub record SpiSame (f : Fields) : Type 0 where
+  pub status : statusByte (statusIn (f .status)) ≡ f .status
+  pub driven : answerNumber (answerIn (f .driven)) ≡ f .driven
+  pub asleep : bit (eqb (f .asleep) 1) ≡ f .asleep
+  pub phase : SpiPhase.fieldsOf (SpiPhase.phaseIn (f .phase)) ≡ f .phase
+
+pub spi-same : (f : Fields) → fieldsOf (stateIn f) ≡ f → f .power ≡ 1 → SpiSame f
+spi-same f same on =
+    record {
+      status = rw on at (ap (λ (y : Fields). y .status) same);
+      driven = rw on at (ap (λ (y : Fields). y .driven) same);
+      asleep = rw on at (ap (λ (y : Fields). y .asleep) same);
+      phase = rw on at (ap (λ (y : Fields). y .phase) same);
+    }
+
+pub record I2cSame (f : Fields) : Type 0 where
+  pub status : statusByte (statusIn (f .status)) ≡ f .status
+  pub driven : answerNumber (answerOf (eqb (f .driven) 0)) ≡ f .driven
+  pub used : bit (eqb (f .used) 1) ≡ f .used
+  pub phase : I2cPhase.fieldsOf (I2cPhase.phaseIn (f .phase)) ≡ f .phase
+
+pub i2c-same : (f : Fields) → fieldsOf (stateIn f) ≡ f → f .power ≡ 2 → I2cSame f
+i2c-same f same on =
+    record {
+      status = rw on at (ap (λ (y : Fields). y .status) same);
+      driven = rw on at (ap (λ (y : Fields). y .driven) same);
+      used = rw on at (ap (λ (y : Fields). y .used) same);
+      phase = rw on at (ap (λ (y : Fields). y .phase) same);
+    }
+
+pub answer-back : (a : Answer) → answerIn (answerNumber a) ≡ a
+answer-back Low = refl
+answer-back High = refl
+answer-back HighZ = refl
+
+-- ---- a sample is that of its levels
+
+level-bit : (y : ℕ) → y < 2 → bit (eqb y 1) ≡ y
+level-bit zero h = refl
+level-bit (suc zero) h = refl
+level-bit (suc (suc n)) h = absurd (omega arith)
+
+pub spi-sample-same : (x : ℕ) → x < 32 → SpiLevels.sampleOf (SpiLevels.levelsOf x) ≡ x
+spi-sample-same x h =
+    let h4 : x / 4 ≡ x / 2 / 2 = omega arith in
+    let h8 : x / 8 ≡ x / 4 / 2 = omega arith in
+    let h16 : x / 16 ≡ x / 8 / 2 = omega arith in
+    let h32 : x / 16 / 2 ≡ 0 = omega arith in
+    rw (level-bit (x % 2) (omega arith), level-bit (x / 2 % 2) (omega arith), level-bit (x / 4 % 2) (omega arith), level-bit (x / 8 % 2) (omega arith), level-bit (x / 16 % 2) (omega arith))
+    (omega arith)
+
+pub i2c-sample-same : (x : ℕ) → x < 8 → I2cLevels.sampleOf (I2cLevels.levelsOf x) ≡ x
+i2c-sample-same x h =
+    let h4 : x / 4 ≡ x / 2 / 2 = omega arith in
+    let h8 : x / 4 / 2 ≡ 0 = omega arith in
+    rw (level-bit (x % 2) (omega arith), level-bit (x / 2 % 2) (omega arith), level-bit (x / 4 % 2) (omega arith)) (omega arith)
+
+-- ---- a sample that is not done
+
+pub left-undone : {A : Type 0} {d : Bool} → d ≡ false → d ≡ true → A
+left-undone e h = let z : _≡_ {A = ℕ} 0 1 = cc in absurd (omega arith)

@@ -1,0 +1,5 @@
+pub mod FieldLaws
+pub mod SpiBits
+pub mod I2cBits
+pub mod SpiLaws
+pub mod I2cLaws

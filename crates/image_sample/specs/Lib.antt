@@ -1,0 +1,3 @@
+pub mod Stepped
+pub mod Bits
+pub mod Moved
