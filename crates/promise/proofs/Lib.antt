@@ -31,3 +31,4 @@ pub mod Selects
 pub mod SelectSteps
 pub mod SelectAnswers
 pub mod SelectsExample
+pub mod Host

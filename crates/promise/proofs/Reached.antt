@@ -1,42 +1,18 @@
 -- Reached states are in range, whatever numbers, bytes, quotas and memories the calls were given, so that numbers 1 and 2 are not
--- given for them. From the same fact for one event, since runs and selections are events. Assumes nothing.
+-- given for them. From the same fact for each kind of call. Assumes nothing.
 use Prim.Native.Nat.{ℕ}
-use mathlib.Core.Path.{_≡_, subst}
+use mathlib.Core.Path.{_≡_}
 use mathlib.Core.Bool.{Bool, true, cond}
 use mathlib.Core.List.{List}
 use lib.Dec.{eqb}
 use lib.ListN.{length}
 use Rattle.parts.specs.declared.refusal.Refusal.the-variants.{MemoryLength}
 use Rattle.parts.specs.Table.{partOf}
-use Rattle.chip.specs.declared.check.Verdict.{Verdict}
 use Rattle.chip.specs.declared.check.Verdict.the-variants.{Passed, Failed}
 use Rattle.chip.specs.declared.model.Model.{Model}
 use Rattle.chip.specs.Check.{modelIn, busIn, checkOf}
-use Rattle.byte_path.specs.Select.{selectOf}
-use Rattle.runs.specs.Run.{loopOf, runOnVerdict, runOf}
-use Rattle.runs.proofs.RunLaws.{loop-induction}
 use Rattle.promise.specs.Reached.{Reached, by-making, by-event, by-run, by-select}
-use Rattle.promise.specs.SelectSteps.{select, stepEvents}
-use Rattle.promise.proofs.Ranges.{InRange, made-in, event-in, list-in}
-use Rattle.promise.proofs.SelectSteps.{step-leaves}
-
-loop-in : (quota : ℕ) (t : List ℕ) (s : Model) (m : List ℕ) → InRange s → InRange (loopOf quota t s m .model)
-loop-in =
-    loop-induction (λ q t s m r. InRange s → InRange (r .model))
-    (λ q n place t s m e h. h)
-    (λ q t s m some none r k h. k (event-in s m t h))
-
-run-in : (quota : ℕ) (t : List ℕ) (s : Model) (m : List ℕ) → InRange s → InRange (runOf quota t s m .model)
-unfolding runOf
-run-in quota t s m h = by (checkOf s (length m))
-  where
-    by : (v : Verdict) → InRange (runOnVerdict v quota t s m .model)
-    by Passed = loop-in quota t s m h
-    by (Failed r) = h
-
-select-in : (wp : Bool) (s : Model) (input output m : List ℕ) → InRange s → InRange (selectOf wp s input output m .model)
-select-in wp s input output m h =
-    subst InRange (step-leaves (select wp input output) s m .0) (list-in (stepEvents s m (select wp input output)) s m h)
+use Rattle.promise.proofs.Ranges.{made-in, event-in, run-in, select-in}
 
 pub reached-in-range : {s : Model} → Reached s → (modelIn s ≡ true) × (busIn (partOf (s .part)) (s .status) (s .bus) ≡ true)
 reached-in-range (by-making part pins bits) = made-in part pins bits

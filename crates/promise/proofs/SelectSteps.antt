@@ -5,19 +5,10 @@ use mathlib.Core.Path.{_≡_, refl, sym, ap}
 use mathlib.Core.Bool.{Bool, true, false, cond}
 use mathlib.Core.List.{List, [], _∷_}
 use lib.Dec.{eqb}
-use lib.ListN.{length}
 use borrow.Author.Tests.{eqb-true, eqb-false}
-use Rattle.parts.specs.declared.refusal.Refusal.{Refusal}
-use Rattle.parts.specs.declared.refusal.Refusal.the-variants.{UnknownKind, NotDeselected, BufferLength}
-use Rattle.parts.specs.Table.{isSpi, partOf}
-use Rattle.chip.specs.declared.check.Verdict.{Verdict}
-use Rattle.chip.specs.declared.check.Verdict.the-variants.{Passed, Failed}
-use Rattle.chip.specs.declared.model.BusState.{BusState}
-use Rattle.chip.specs.declared.model.BusState.the-variants.{Unpowered, SpiOn, I2cOn}
 use Rattle.chip.specs.declared.model.Model.{Model}
-use Rattle.chip.specs.Check.{checkOf}
-use Rattle.byte_path.specs.PinPath.{selectionOf}
-use Rattle.byte_path.specs.Select.{Select, refusedSelect, takenSelect, sizedSelect, busSelect, verdictSelect, selectOf}
+use Rattle.byte_path.specs.Select.{selectOf}
+use Rattle.calls.proofs.Kept.{select-stays}
 use Rattle.promise.specs.Lists.{modelAfter, memoryAfter}
 use Rattle.promise.specs.Promise.{madeBy, cutMemory}
 use Rattle.promise.specs.Selects.{pinEvents}
@@ -25,32 +16,6 @@ use Rattle.promise.specs.SelectSteps.{Step, event, select, stepped, step
 use Rattle.promise.proofs.Demand3.{demand3}
 use Rattle.promise.proofs.Joins.{model-join, memory-join}
 use Rattle.promise.proofs.Selects.{as-events}
-
--- ---- a selection that is refused changes nothing
-
-module _ (wp : Bool) (s : Model) (input output m : List ℕ) where
-  abbrev Kept : Select → Type 0
-  Kept x = (x .number ≡ 0 → ⊥) → (x .model ≡ s) × (x .memory ≡ m)
-
-  kept-test : (t : Bool) (x : Select) (r : Refusal) → Kept x → Kept (cond t x (refusedSelect wp s input output m r))
-  kept-test true x r k = k
-  kept-test false x r k = λ z. (refl, refl)
-
-  sized-kept : Kept (sizedSelect wp s input output m)
-  sized-kept = kept-test (eqb (length output) (length input)) (takenSelect wp s input output m (selectionOf wp s m input)) BufferLength (λ z. absurd (z refl))
-
-  bus-kept : (b : BusState) → Kept (busSelect wp s input output m b)
-  bus-kept Unpowered = λ z. (refl, refl)
-  bus-kept (SpiOn x) = kept-test (x .last .cs) (sizedSelect wp s input output m) NotDeselected sized-kept
-  bus-kept (I2cOn x) = λ z. (refl, refl)
-
-  verdict-kept : (v : Verdict) → Kept (verdictSelect wp s input output m v)
-  verdict-kept Passed = kept-test (isSpi (partOf (s .part) .bus)) (busSelect wp s input output m (s .bus)) UnknownKind (bus-kept (s .bus))
-  verdict-kept (Failed r) = λ z. (refl, refl)
-
-  pub select-kept : Kept (selectOf wp s input output m)
-  unfolding selectOf
-  select-kept = verdict-kept (checkOf s (length m))
 
 -- ---- one step, then all
 
@@ -65,7 +30,7 @@ step-leaves (select wp input output) s m = by (eqb (selectOf wp s input output m
     by : (y : Bool) → eqb (selectOf wp s input output m .number) 0 ≡ y
         → Leaves s m (cond y (pinEvents wp input) []) (selectOf wp s input output m .model) (selectOf wp s input output m .memory)
     by true e = let k = as-events wp s input output m (eqb-true _ _ e) in (k .model, k .memory)
-    by false e = let k = select-kept wp s input output m (eqb-false _ _ e) in (sym (k .0), sym (k .1))
+    by false e = let k = select-stays wp s input output m (eqb-false _ _ e) in (sym (k .0), sym (k .1))
 
 pub steps-leave : (xs : List Step) (s : Model) (m : List ℕ) → Leaves s m (eventsSteps s m xs) (modelSteps s m xs) (memorySteps s m xs)
 steps-leave [] s m = (refl, refl)

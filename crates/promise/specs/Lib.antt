@@ -17,3 +17,4 @@ pub mod SpiBytes
 pub mod Selects
 pub mod SelectSteps
 pub mod SelectAnswers
+pub mod Host
