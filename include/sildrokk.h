@@ -1,7 +1,14 @@
 /*
  * Sildrokk for C: a bench model of five FeRAM parts that plays the chip at its pins.
  *
- * Link target/staticlib/libharness.a, which `rt staticlib harness` proves and writes (x86-64).
+ * Link target/staticlib/libsildrokk.a, which `rt staticlib sildrokk` proves and writes (x86-64).
+ *
+ * The host holds each model itself: a state of 32 bytes and a memory as long as the part's. Making
+ * writes a state; every other call takes it, and leaves the next one in its place:
+ *
+ *   uint8_t state[32], memory[4096] = {0}, result[32];
+ *   sildrokk_make(0, 0, 0, state, sizeof state);
+ *   sildrokk_event(state, sizeof state, event, event_length, memory, sizeof memory, result, sizeof result);
  *
  *   part  chip        bus  bytes of memory  address pins      saved bits (SRWD BP1 BP0)
  *   0     MR45V032A   SPI  4,096            0                 0
@@ -10,7 +17,7 @@
  *   3     MR44V064B   I2C  8,192            0 to 7, A2 A1 A0  0
  *   4     MS85RC1MTY  I2C  131,072          0 to 3, A2 A1     0
  *
- * A trace is a row of events with nothing between them. The first byte of each is its kind:
+ * An event is a kind byte and its body; a trace is a row of events with nothing between them:
  *
  *   01 sample                power on of an SPI part
  *   02 sample, 3 bytes       power on of an I2C part, and the start address, high byte first
@@ -29,7 +36,9 @@
  *
  * Each function returns 0, or the first of these numbers that holds, in this order:
  *
- *   1   no such part, or pins or saved bits that it cannot have
+ *   1   no such part, or pins or saved bits that it cannot have; only at making
+ *   2   a state or result that is not 32 bytes long; except at making, also a state that is not the
+ *       image of a state in its ranges (docs/IMAGE.md)
  *   3   memory_length is more or less than the part has
  *   4   no such kind, or the power on of the other bus; of a selection, that the part is on I2C
  *   5   the event's bytes are not all there
@@ -42,16 +51,20 @@
  *   12  a selection without power, or where CS# was not 1 in the last sample
  *   13  output_length is more or less than input_length
  *
- * 1 and 3 are tested first, whatever the trace and the quota; the memory is then untouched, and the
- * numbers of the result are 0, but for a flag offset, which is trace_length. With 4 to 11 of an
- * event the events before it stand, and so does their flag. The 4 of a selection, 12 and 13 are
- * tested after the whole trace, in this order, and all of it stands. With 2 these are eleven
- * numbers, and two more of a selection; 2 is for a state that a host hands in, and no function here
- * takes one.
+ * A call that is refused changes neither state nor memory, answers nor output, making included. In a
+ * run the events before the refused one stand, in state and memory, and so do their answers and their
+ * flag. A result of 32 bytes is written by every call, refused or not, and all of it: what is not
+ * said below is 0. A result of another length is left as it is.
  *
- * The host's duties, which nothing here can test: each pointer is valid for its length and not
- * null, also where the length is 0; and no two of the lent buffers overlap. The functions keep
- * nothing between calls and allocate nothing, so calls on buffers of their own may run at once.
+ * The state is a byte image that a person can read in a dump: docs/IMAGE.md has its fields. It holds
+ * no pointer, so a copy of state and memory is a model of its own, and both may be kept in a file.
+ *
+ * The host's duties, which nothing here can test: each pointer is valid for its length and not null,
+ * also where the length is 0; no two of the buffers lent to one call overlap; and from the making on
+ * nobody else writes the state or the memory between calls, if what memory and saved bits hold is to
+ * be what the events wrote. The functions keep nothing between calls and allocate nothing, so calls
+ * on buffers of their own may run at once, in as many threads as there are; two calls on one state or
+ * one memory may not.
  */
 
 #ifndef SILDROKK_H
@@ -64,13 +77,32 @@
 extern "C" {
 #endif
 
+/* How long a state and a result are. */
+#define SILDROKK_STATE 32
+#define SILDROKK_RESULT 32
+
 /*
- * Makes a model of part, address pins and saved bits, without power, and runs the trace on the
- * lent memory: at most `quota` events, up to the end of the trace or to one that is refused.
+ * Writes the state of a part just made, without power. 1, then 2, refuse it; the state is then left as
+ * it is.
+ */
+uint8_t sildrokk_make(uint32_t part, uint32_t pins, uint32_t bits,
+                      uint8_t *state, size_t state_length);
+
+/*
+ * The event at the front of `event`; bytes after it are not looked at. Result: its answer (byte 0)
+ * and its flag, 0 or 1 (byte 1). On a refusal these are 2 and 0.
+ */
+uint8_t sildrokk_event(uint8_t *state, size_t state_length,
+                       const uint8_t *event, size_t event_length,
+                       uint8_t *memory, size_t memory_length,
+                       uint8_t *result, size_t result_length);
+
+/*
+ * At most `quota` events from the front of a trace, up to its end or to one that is refused.
  *
- * A result of exactly 24 bytes gets three numbers of eight bytes, high byte first: the count, which
- * is how many events were accepted, the offset, and the flag offset. A result of another length is
- * left as it is.
+ * Result: three numbers of eight bytes, high byte first: the count, which is how many events were
+ * accepted (bytes 0 to 7), the offset (8 to 15), and the flag offset (16 to 23). With 2 and 3 no event
+ * is looked at, and these are 0, 0 and trace_length.
  *
  * With 6, 10 and 11 the offset is that of the first byte of the bad field: with 6 the sample and
  * with 11 the expected answer, one after the kind byte; with 10 the first of the three bytes of the
@@ -80,8 +112,8 @@ extern "C" {
  * The flag offset is that of the kind byte of the first accepted event with the flag, or
  * trace_length if none has it.
  */
-uint8_t sildrokk_run(uint32_t part, uint32_t pins, uint32_t bits, uint64_t quota,
-                     const uint8_t *trace, size_t trace_length,
+uint8_t sildrokk_run(uint8_t *state, size_t state_length,
+                     const uint8_t *trace, size_t trace_length, uint64_t quota,
                      uint8_t *memory, size_t memory_length,
                      uint8_t *result, size_t result_length);
 
@@ -89,34 +121,26 @@ uint8_t sildrokk_run(uint32_t part, uint32_t pins, uint32_t bits, uint64_t quota
  * The same run. It also writes the answer (0, 1 or 2) of the accepted event number i, counted from
  * 0, to answers[i] while there is room; the rest of answers is left as it is.
  */
-uint8_t sildrokk_replay(uint32_t part, uint32_t pins, uint32_t bits, uint64_t quota,
-                        const uint8_t *trace, size_t trace_length,
+uint8_t sildrokk_replay(uint8_t *state, size_t state_length,
+                        const uint8_t *trace, size_t trace_length, uint64_t quota,
                         uint8_t *memory, size_t memory_length,
                         uint8_t *answers, size_t answers_length,
                         uint8_t *result, size_t result_length);
 
 /*
- * Makes a model, runs the whole trace on the lent memory, and if all of it was accepted takes one
- * selection of an SPI part as bytes: CS# falls, the bytes of `input` go in at SI, high bit first,
+ * One selection of an SPI part as bytes: CS# falls, the bytes of `input` go in at SI, high bit first,
  * and CS# rises. WP# is low throughout if `wp` is 0, and high if it is any other number; HOLD# is
- * high. No bytes at all is a selection too. What a trace with the same selection as samples does to
- * the memory, this does.
+ * high. No bytes at all is a selection too. What the same selection does as samples, this does.
  *
  * output[i] gets what SO showed while input[i] went in: each bit as it was just before the rise of
  * SCK that took the bit in the same place, and 1 where the part drove nothing.
  *
- * A result of exactly 16 bytes gets two numbers as above: the index of the first driven byte and
- * how many are driven, or input_length and 0 if none is. If the call is refused both are 0, also
- * where an event of the trace is, and output is left as it is. There is no flag offset, since WP#
- * is still from the fall of CS# to its rise; flags of the trace are told by a run of it.
- *
- * The model ends with the call. What a selection leaves behind other than in memory, such as an
- * enable, is there for the next one if the trace of the next call has this one, as samples. That
- * trace is then run again, so the memory is to be lent as it was before all of it.
+ * Result: two numbers as above: the index of the first driven byte (bytes 0 to 7) and how many are
+ * driven (8 to 15), or input_length and 0 if none is. On a refusal both are 0. There is no flag
+ * offset, since WP# is still from the fall of CS# to its rise.
  */
-uint8_t sildrokk_select(uint32_t part, uint32_t pins, uint32_t bits,
-                        const uint8_t *trace, size_t trace_length,
-                        uint32_t wp, const uint8_t *input, size_t input_length,
+uint8_t sildrokk_select(uint8_t *state, size_t state_length, uint32_t wp,
+                        const uint8_t *input, size_t input_length,
                         uint8_t *output, size_t output_length,
                         uint8_t *memory, size_t memory_length,
                         uint8_t *result, size_t result_length);

@@ -1,2 +1,1 @@
 pub mod MadeRun
-pub mod MadeSelect

@@ -1,0 +1,4 @@
+pub mod SampleLaws
+pub mod EventLaws
+pub mod RunLaws
+pub mod ExpectedLaws

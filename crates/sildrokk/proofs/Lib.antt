@@ -1,0 +1,3 @@
+pub mod ResultLaws
+pub mod OpenLaws
+pub mod CallLaws
