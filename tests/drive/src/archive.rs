@@ -1,17 +1,33 @@
-//! The calls of the archive, and all that is unsafe: slices go in as pointers with their lengths.
+//! The calls of the archive, and all that is unsafe: slices of any length go in as pointers with their
+//! lengths.
 
 #![allow(unsafe_code)]
 
+use crate::outcome::STATE;
 use crate::Making;
+use std::marker::PhantomData;
+use std::mem::MaybeUninit;
 
 extern "C" {
+    fn sildrokk_make(part: u32, pins: u32, bits: u32, state: *mut u8, state_length: usize) -> u8;
+
+    fn sildrokk_event(
+        state: *mut u8,
+        state_length: usize,
+        event: *const u8,
+        event_length: usize,
+        memory: *mut u8,
+        memory_length: usize,
+        result: *mut u8,
+        result_length: usize,
+    ) -> u8;
+
     fn sildrokk_run(
-        part: u32,
-        pins: u32,
-        bits: u32,
-        quota: u64,
+        state: *mut u8,
+        state_length: usize,
         trace: *const u8,
         trace_length: usize,
+        quota: u64,
         memory: *mut u8,
         memory_length: usize,
         result: *mut u8,
@@ -19,12 +35,11 @@ extern "C" {
     ) -> u8;
 
     fn sildrokk_replay(
-        part: u32,
-        pins: u32,
-        bits: u32,
-        quota: u64,
+        state: *mut u8,
+        state_length: usize,
         trace: *const u8,
         trace_length: usize,
+        quota: u64,
         memory: *mut u8,
         memory_length: usize,
         answers: *mut u8,
@@ -34,11 +49,8 @@ extern "C" {
     ) -> u8;
 
     fn sildrokk_select(
-        part: u32,
-        pins: u32,
-        bits: u32,
-        trace: *const u8,
-        trace_length: usize,
+        state: *mut u8,
+        state_length: usize,
         wp: u32,
         input: *const u8,
         input_length: usize,
@@ -51,83 +63,148 @@ extern "C" {
     ) -> u8;
 }
 
-/// The buffers that a call lends. That none of them overlap is what the borrows say.
-pub struct Lent<'a> {
-    pub trace: &'a [u8],
-    pub memory: &'a mut [u8],
-    /// With answers the call is `sildrokk_replay`, without them `sildrokk_run`.
-    pub answers: Option<&'a mut [u8]>,
-    pub result: &'a mut [u8],
+/// A buffer that a call may write and never reads, so that it need not have been written before.
+pub struct Room<'a> {
+    at: *mut u8,
+    length: usize,
+    lent: PhantomData<&'a mut [u8]>,
 }
 
-/// One call of the proved build: the number it returns.
-pub fn call(making: Making, quota: u64, lent: Lent) -> u8 {
-    let Making { part, pins, bits } = making;
-    let (trace, trace_length) = (lent.trace.as_ptr(), lent.trace.len());
-    let (memory, memory_length) = (lent.memory.as_mut_ptr(), lent.memory.len());
-    let (result, result_length) = (lent.result.as_mut_ptr(), lent.result.len());
-    // SAFETY: each pointer comes from a slice with its length, and the slices of `lent` do not
-    // overlap. The functions keep no pointer after they return.
-    unsafe {
-        match lent.answers {
-            None => sildrokk_run(
-                part,
-                pins,
-                bits,
-                quota,
-                trace,
-                trace_length,
-                memory,
-                memory_length,
-                result,
-                result_length,
-            ),
-            Some(answers) => sildrokk_replay(
-                part,
-                pins,
-                bits,
-                quota,
-                trace,
-                trace_length,
-                memory,
-                memory_length,
-                answers.as_mut_ptr(),
-                answers.len(),
-                result,
-                result_length,
-            ),
+impl<'a> From<&'a mut [u8]> for Room<'a> {
+    fn from(bytes: &'a mut [u8]) -> Room<'a> {
+        Room {
+            at: bytes.as_mut_ptr(),
+            length: bytes.len(),
+            lent: PhantomData,
         }
     }
 }
 
-/// The buffers that a selection as bytes lends.
-pub struct LentBytes<'a> {
-    pub trace: &'a [u8],
-    pub input: &'a [u8],
-    pub output: &'a mut [u8],
-    pub memory: &'a mut [u8],
-    pub result: &'a mut [u8],
+impl<'a> From<&'a mut [MaybeUninit<u8>]> for Room<'a> {
+    fn from(bytes: &'a mut [MaybeUninit<u8>]) -> Room<'a> {
+        Room {
+            at: bytes.as_mut_ptr().cast(),
+            length: bytes.len(),
+            lent: PhantomData,
+        }
+    }
 }
 
-/// One call of `sildrokk_select`: the number it returns.
-pub fn call_bytes(making: Making, wp: u32, lent: LentBytes) -> u8 {
-    // SAFETY: as above; the input is only read, and the slices of `lent` do not overlap.
+/// What each call but making lends. That no two of the buffers overlap is what the borrows say.
+pub struct Lent<'a> {
+    pub state: &'a mut [u8],
+    pub memory: &'a mut [u8],
+    pub result: Room<'a>,
+}
+
+/// `sildrokk_make`: the number it returns.
+pub fn make(making: Making, state: Room) -> u8 {
+    let Making { part, pins, bits } = making;
+    // SAFETY: the pointer comes from a slice with its length. No function keeps a pointer after it
+    // returns; so below.
+    unsafe { sildrokk_make(part, pins, bits, state.at, state.length) }
+}
+
+/// A making into a buffer that nothing was written to before, so that valgrind tells if it reads it, or
+/// if bytes of the state are used that it has not written. None if it is refused.
+pub fn make_unread(making: Making) -> Option<Box<[u8]>> {
+    let mut state = Box::new_uninit_slice(STATE);
+    let number = make(making, (&mut *state).into());
+    // SAFETY: a making that is not refused writes the whole state.
+    (number == 0).then(|| unsafe { state.assume_init() })
+}
+
+/// `sildrokk_event`: the number it returns.
+pub fn event(event: &[u8], lent: Lent) -> u8 {
+    let Lent {
+        state,
+        memory,
+        result,
+    } = lent;
+    // SAFETY: each pointer comes from a slice with its length, and the slices do not overlap.
+    unsafe {
+        sildrokk_event(
+            state.as_mut_ptr(),
+            state.len(),
+            event.as_ptr(),
+            event.len(),
+            memory.as_mut_ptr(),
+            memory.len(),
+            result.at,
+            result.length,
+        )
+    }
+}
+
+/// `sildrokk_run`: the number it returns.
+pub fn run(trace: &[u8], quota: u64, lent: Lent) -> u8 {
+    let Lent {
+        state,
+        memory,
+        result,
+    } = lent;
+    // SAFETY: as above.
+    unsafe {
+        sildrokk_run(
+            state.as_mut_ptr(),
+            state.len(),
+            trace.as_ptr(),
+            trace.len(),
+            quota,
+            memory.as_mut_ptr(),
+            memory.len(),
+            result.at,
+            result.length,
+        )
+    }
+}
+
+/// `sildrokk_replay`: the number it returns.
+pub fn replay(trace: &[u8], quota: u64, answers: Room, lent: Lent) -> u8 {
+    let Lent {
+        state,
+        memory,
+        result,
+    } = lent;
+    // SAFETY: as above.
+    unsafe {
+        sildrokk_replay(
+            state.as_mut_ptr(),
+            state.len(),
+            trace.as_ptr(),
+            trace.len(),
+            quota,
+            memory.as_mut_ptr(),
+            memory.len(),
+            answers.at,
+            answers.length,
+            result.at,
+            result.length,
+        )
+    }
+}
+
+/// `sildrokk_select`: the number it returns.
+pub fn select(wp: u32, input: &[u8], output: Room, lent: Lent) -> u8 {
+    let Lent {
+        state,
+        memory,
+        result,
+    } = lent;
+    // SAFETY: as above.
     unsafe {
         sildrokk_select(
-            making.part,
-            making.pins,
-            making.bits,
-            lent.trace.as_ptr(),
-            lent.trace.len(),
+            state.as_mut_ptr(),
+            state.len(),
             wp,
-            lent.input.as_ptr(),
-            lent.input.len(),
-            lent.output.as_mut_ptr(),
-            lent.output.len(),
-            lent.memory.as_mut_ptr(),
-            lent.memory.len(),
-            lent.result.as_mut_ptr(),
-            lent.result.len(),
+            input.as_ptr(),
+            input.len(),
+            output.at,
+            output.length,
+            memory.as_mut_ptr(),
+            memory.len(),
+            result.at,
+            result.length,
         )
     }
 }

@@ -60,7 +60,6 @@ impl Bad {
 pub fn calls() -> Vec<Bad> {
     let of_part = |part| {
         [
-            makings(part),
             memories(part),
             traces(part),
             behind::refusals(part),
@@ -69,8 +68,7 @@ pub fn calls() -> Vec<Bad> {
             answers(part),
         ]
     };
-    let of_parts = PARTS.iter().flat_map(of_part).flatten();
-    of_parts.chain(parts()).collect()
+    PARTS.iter().flat_map(of_part).flatten().collect()
 }
 
 /// Where the good calls store a byte.
@@ -121,49 +119,26 @@ fn any_calls(part: &Part) -> [Call; 4] {
 }
 
 /// Parts out of range, 256 among them, which cut to a byte would be part 0.
-pub(crate) const NO_PARTS: [u32; 8] = [5, 6, 255, 256, 257, 1 << 16, 1 << 31, u32::MAX];
+const NO_PARTS: [u32; 8] = [5, 6, 255, 256, 257, 1 << 16, 1 << 31, u32::MAX];
 
-fn parts() -> Vec<Bad> {
-    let with = |part| {
-        any_calls(&PARTS[0]).map(|call| Call {
-            making: plain(part),
-            ..call
-        })
-    };
-    let bad = NO_PARTS.into_iter().flat_map(with);
-    bad.map(|call| Bad::unrun(call, 1)).collect()
-}
-
-/// Pins and bits out of range, 256 among them.
-pub(crate) fn no_makings(part: &Part) -> Vec<Making> {
+/// Makings that no part can have: parts, pins and bits out of range, 256 among them.
+pub fn no_makings() -> Vec<Making> {
     let beyond = |most: u32| [most + 1, 8, 255, 256, 1 << 16, u32::MAX];
-    let pins = beyond(part.max_pins).map(|pins| Making::new(part.number, pins, 0));
-    let bits = beyond(part.max_bits).map(|bits| Making::new(part.number, 0, bits));
-    [pins, bits].concat()
+    let of_part = |part: &Part| {
+        let pins = beyond(part.max_pins).map(|pins| Making::new(part.number, pins, 0));
+        let bits = beyond(part.max_bits).map(|bits| Making::new(part.number, 0, bits));
+        [pins, bits].concat()
+    };
+    let no_parts = NO_PARTS.map(plain);
+    PARTS.iter().flat_map(of_part).chain(no_parts).collect()
 }
 
 /// Lengths of memory that are not the part's, those of the other parts among them.
-pub(crate) fn no_sizes(part: &Part) -> Vec<usize> {
+pub fn no_sizes(part: &Part) -> Vec<usize> {
     let near = [0, 1, part.size - 1, part.size + 1];
     let others = PARTS.iter().map(|part| part.size);
     let all = near.into_iter().chain(others);
     all.filter(|&it| it != part.size).collect()
-}
-
-/// 1 comes before 3, whatever the memory, the trace and the quota.
-fn makings(part: &Part) -> Vec<Bad> {
-    let each = |making| {
-        let with = move |memory| {
-            any_calls(part).map(|call| Call {
-                making,
-                memory,
-                ..call
-            })
-        };
-        [part.size, 0].into_iter().flat_map(with)
-    };
-    let bad = no_makings(part).into_iter().flat_map(each);
-    bad.map(|call| Bad::unrun(call, 1)).collect()
 }
 
 /// Memories of another length, whatever the trace and the quota.
@@ -192,29 +167,21 @@ fn traces(part: &Part) -> Vec<Bad> {
     ]
 }
 
-/// Lengths of a result: that of a run (24), that of a selection (16), and others. Any but its own is
-/// left, and the call is the same.
-pub(crate) const RESULTS: [usize; 10] = [0, 1, 8, 15, 16, 17, 23, 24, 25, 32];
+/// Lengths of a result other than 32, which refuse a call. `tests/lengths.rs` has every one up to 40.
+pub(crate) const NO_RESULTS: [usize; 6] = [0, 16, 24, 31, 33, 64];
 
-/// Each of them, also where nothing is run.
+/// Each of them, whatever the trace and the quota; 2 comes before 3.
 fn results(part: &Part) -> Vec<Bad> {
-    let with = |result| {
-        let good = Call {
+    let with = |(result, memory)| {
+        any_calls(part).map(|call| Call {
             result,
-            ..storing(part)
-        };
-        let unmade = Call {
-            making: Making::new(part.number, part.max_pins + 1, 0),
-            ..good.clone()
-        };
-        let no_memory = Call {
-            memory: 0,
-            ..good.clone()
-        };
-        let unrun = [Bad::unrun(unmade, 1), Bad::unrun(no_memory, 3)];
-        unrun.into_iter().chain([Bad::accepted(good, 1)])
+            memory,
+            ..call
+        })
     };
-    RESULTS.into_iter().flat_map(with).collect()
+    let each = |result| [(result, part.size), (result, 0)];
+    let bad = NO_RESULTS.into_iter().flat_map(each).flat_map(with);
+    bad.map(|call| Bad::unrun(call, 2)).collect()
 }
 
 /// Answers with every room up to one more than there are events.

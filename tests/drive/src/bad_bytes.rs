@@ -1,10 +1,10 @@
 //! Selections as bytes with something wrong or at its limit, each with the number that it is to
 //! return and how many bytes of memory then differ from the first.
 
-use crate::bad::{no_makings, no_sizes, one_stored, plain, NO_PARTS, RESULTS, STORED_AT};
+use crate::bad::{no_sizes, one_stored, plain, NO_RESULTS, STORED_AT};
 use crate::byte_call::ByteCall;
-use crate::refused::{self, Refused};
-use twin::part::{i2c_pin, spi_pin, Wires};
+use crate::refused;
+use twin::part::{spi_pin, Wires};
 use twin::text::first_byte;
 use twin::{Part, PARTS};
 
@@ -24,13 +24,13 @@ const SELECTED_AT: usize = 0x200;
 
 /// All of them.
 pub fn calls() -> Vec<Bad> {
-    let spi = |part| [levels(part), lengths(part), unready(part)];
+    let spi = |part| [levels(part), lengths(part), unready(part), refusals(part)];
     let of_part = |part: &'static Part| {
         let own = match part.wires {
             Wires::Spi => spi(part).concat(),
             Wires::I2c => other_bus(part),
         };
-        [makings(part), memories(part), traces(part), own].concat()
+        [results(part), memories(part), own].concat()
     };
     PARTS.iter().flat_map(of_part).collect()
 }
@@ -90,62 +90,57 @@ fn with_another_length(all: Vec<Bad>) -> Vec<Bad> {
     [all, longer].concat()
 }
 
-/// No such part, pins or bits; with a memory of any length.
-fn makings(part: &Part) -> Vec<Bad> {
-    let no_parts = NO_PARTS.map(plain).to_vec();
-    let all = [no_makings(part), no_parts].concat();
-    let sizes = [part.size, 0];
-    let each = |&size: &usize| {
-        each_way(part, &all, 1, 0, |call, &making| {
-            call.making = making;
+/// Results of another length: 2 comes before 3, 4, 12 and 13.
+fn results(part: &Part) -> Vec<Bad> {
+    let each = |(size, end): (usize, &[u8])| {
+        let stored = u64::from(size > 0);
+        each_way(part, &NO_RESULTS, 2, stored, |call, &length| {
+            call.result = length;
             call.memory = size;
-        })
-    };
-    with_another_length(sizes.iter().flat_map(each).collect())
-}
-
-/// Memories of another length, whatever the trace: 3 comes before its numbers and before 4 and 12.
-fn memories(part: &Part) -> Vec<Bad> {
-    let sizes = no_sizes(part);
-    let traces = [storing(part), vec![], vec![0xff]];
-    let each = |trace: &Vec<u8>| {
-        each_way(part, &sizes, 3, 0, |call, &size| {
-            call.memory = size;
-            call.trace = trace.clone();
-        })
-    };
-    with_another_length(traces.iter().flat_map(each).collect())
-}
-
-/// Refused events: their number comes before 4, 12 and 13, and what came before them stands. Each
-/// comes at the end of a good trace where it is refused: under power, also so that CS# is 0 on SPI,
-/// and without.
-fn traces(part: &Part) -> Vec<Bad> {
-    let low = match part.wires {
-        Wires::Spi => spi_pin::HOLD,
-        Wires::I2c => i2c_pin::SCL | i2c_pin::SDA,
-    };
-    let befores: [(&[u8], bool); 3] = [(&[], true), (&[4, low], true), (&[3], false)];
-    let each = |refused: Refused| {
-        let met = befores
-            .iter()
-            .filter(|(_, powered)| refused.when.holds(*powered));
-        let ends: Vec<Vec<u8>> = met
-            .map(|(before, _)| [before, &refused.event[..]].concat())
-            .collect();
-        each_way(part, &ends, refused.number, BY_TRACE, |call, end| {
             call.trace.extend(end);
         })
     };
-    with_another_length(refused::events(part).into_iter().flat_map(each).collect())
+    let ways: [(usize, &[u8]); 3] = [(part.size, &[]), (part.size, &[3]), (0, &[])];
+    with_another_length(ways.into_iter().flat_map(each).collect())
 }
 
-/// A part of the other bus, whatever its state.
+/// Memories of another length: 3 comes before 4, 12 and 13.
+fn memories(part: &Part) -> Vec<Bad> {
+    let each = |size: usize| {
+        let stored = u64::from(size > STORED_AT);
+        let ends: [&[u8]; 3] = [&[], &[3], &[4, 0]];
+        each_way(part, &ends, 3, stored, |call, &end| {
+            call.memory = size;
+            call.trace.extend(end);
+        })
+    };
+    with_another_length(no_sizes(part).into_iter().flat_map(each).collect())
+}
+
+/// A refused event at the end of the trace, at rest, with CS# 0 and without power: what came before it
+/// stands, and the selection is as if it had not been sent.
+fn refusals(part: &Part) -> Vec<Bad> {
+    let refused = refused::events(part);
+    let ends = |before: &[u8], powered| -> Vec<Vec<u8>> {
+        let met = refused.iter().filter(|it| it.when.holds(powered));
+        met.map(|it| [before, &it.event].concat()).collect()
+    };
+    let extend = |call: &mut ByteCall, end: &Vec<u8>| call.trace.extend(end);
+    let selected = ends(&[4, spi_pin::HOLD], true);
+    let unready = [selected, ends(&[3], false)].concat();
+    [
+        accepted(part, &ends(&[], true), extend),
+        with_another_length(each_way(part, &unready, 12, BY_TRACE, extend)),
+    ]
+    .concat()
+}
+
+/// A part of the other bus, whatever its state and whatever is refused before.
 fn other_bus(part: &Part) -> Vec<Bad> {
-    let ends: [&[u8]; 3] = [&[], &[3], &[4, 0]];
-    let after = each_way(part, &ends, 4, BY_TRACE, |call, &end| {
-        call.trace.extend(end)
-    });
+    let refused = refused::events(part).into_iter().map(|it| it.event);
+    let ends = [vec![], vec![3], vec![4, 0]].into_iter().chain(refused);
+    let ends: Vec<Vec<u8>> = ends.collect();
+    let after = each_way(part, &ends, 4, BY_TRACE, |call, end| call.trace.extend(end));
     let nothing = each_way(part, &[()], 4, 0, |call, ()| call.trace.clear());
     with_another_length([after, nothing].concat())
 }
@@ -161,7 +156,7 @@ fn unready(part: &Part) -> Vec<Bad> {
     with_another_length([after, nothing].concat())
 }
 
-/// A buffer of another length: 13. A result of another length is left, and the call is the same.
+/// A buffer of another length: 13.
 fn lengths(part: &Part) -> Vec<Bad> {
     let with = |call: &ByteCall, output| Bad {
         call: ByteCall {
@@ -183,16 +178,15 @@ fn lengths(part: &Part) -> Vec<Bad> {
         let others = others.into_iter().filter(move |&it| it != length);
         others.map(move |output| with(&call, output))
     };
-    let outputs = good(part).into_iter().flat_map(each);
-    let results = accepted(part, &RESULTS, |call, &length| call.result = length);
-    outputs.chain(results).collect()
+    good(part).into_iter().flat_map(each).collect()
 }
 
-/// Levels of WP#, of which 256 has a low byte of 0. Which of them are high no call can show, since the
-/// bits that a WRSR sets end with the model; all else is the same for all.
+/// Levels of WP#, of which 256 has a low byte of 0; only 0 is low.
+pub const LEVELS: [u32; 6] = [0, 1, 2, 256, 1 << 31, u32::MAX];
+
+/// The state keeps the level as that of the last sample; all else is the same for all.
 fn levels(part: &Part) -> Vec<Bad> {
-    let levels = [0, 1, 2, 256, 1 << 31, u32::MAX];
-    accepted(part, &levels, |call, &wp| call.wp = wp)
+    accepted(part, &LEVELS, |call, &wp| call.wp = wp)
 }
 
 /// Good calls, changed in ways that nothing depends on.

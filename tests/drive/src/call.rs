@@ -1,17 +1,21 @@
-//! One call of the proved build and the same run of the twin, compared in all that a host can see;
-//! then its offsets with what the bytes tell, and its memory and flag offset with the ledger's.
+//! One run of the proved build from a making and the same run of the twin, compared in all that a
+//! host can see; then its offsets with what the bytes tell, and its memory and flag offset with the
+//! ledger's.
 
+use crate::archive::{self, Lent};
 use crate::field::{self, bad_field};
-use crate::outcome::{first_difference, result_of, Outcome, LEFT, OF_RUN};
+use crate::outcome::{first_difference, result_of, Outcome, LEFT, RESULT};
 use crate::told::Told;
-use crate::{Lent, Making, Ran};
+use crate::{made, Making, Ran};
 use std::fmt;
 use twin::gen::Case;
+use twin::image::encode;
 use twin::text::{first_memory, hex};
 use twin::trace::{after, events};
 use twin::{Model, PARTS};
 
-/// A call, with the lengths of what it lends. The memory is the first memory of the vectors.
+/// A call on a state just made, with the lengths of what it lends. The memory is the first memory of
+/// the vectors.
 #[derive(Clone, Debug)]
 pub struct Call {
     pub making: Making,
@@ -38,13 +42,12 @@ pub struct Agreed {
 impl Call {
     /// The whole trace, in a memory of the part's size, with room for all answers and one more.
     pub fn whole(making: Making, trace: Vec<u8>) -> Call {
-        let part = PARTS.get(making.part as usize).unwrap_or(&PARTS[0]);
         Call {
             making,
             quota: u64::MAX,
-            memory: part.size,
+            memory: PARTS[making.part as usize].size,
             answers: Some(trace.len() + 1),
-            result: OF_RUN,
+            result: RESULT,
             trace,
         }
     }
@@ -145,35 +148,43 @@ impl Call {
         told
     }
 
-    fn proved(&self) -> Outcome {
+    pub(crate) fn proved(&self) -> Outcome {
+        let mut state = made(self.making);
         let mut memory = first_memory(self.memory);
         let mut answers = self.answers.map(|length| vec![LEFT; length]);
         let mut result = vec![LEFT; self.result];
         let lent = Lent {
-            trace: &self.trace,
+            state: &mut state,
             memory: &mut memory,
-            answers: answers.as_deref_mut(),
-            result: &mut result,
+            result: result.as_mut_slice().into(),
+        };
+        let (trace, quota) = (&self.trace[..], self.quota);
+        let number = match &mut answers {
+            None => archive::run(trace, quota, lent),
+            Some(answers) => archive::replay(trace, quota, answers.as_mut_slice().into(), lent),
         };
         Outcome {
-            number: crate::call(self.making, self.quota, lent),
+            number,
+            state,
             memory,
             shown: answers,
             result,
         }
     }
 
-    /// A refused making runs nothing, and so has no flag.
+    /// With a result of another length nothing is run, and so nothing has the flag.
     fn twin(&self) -> (Ran, Outcome) {
         let Making { part, pins, bits } = self.making;
+        let (_, mut model) = Model::make(part, pins, bits);
         let mut memory = first_memory(self.memory);
         let mut answers = Vec::new();
-        let ran = match Model::make(part, pins, bits) {
-            (0, mut model) => model.run(&self.trace, self.quota, &mut memory, &mut answers),
-            (number, _) => Ran::none(number, &self.trace),
+        let ran = match self.result {
+            RESULT => model.run(&self.trace, self.quota, &mut memory, &mut answers),
+            _ => Ran::none(2, &self.trace),
         };
         let outcome = Outcome {
             number: ran.number,
+            state: encode(&model).to_vec(),
             memory,
             shown: self.answers.map(|length| {
                 answers.resize(length, LEFT);

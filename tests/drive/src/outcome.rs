@@ -9,6 +9,7 @@ pub const LEFT: u8 = 0xa5;
 #[derive(PartialEq, Eq)]
 pub struct Outcome {
     pub number: u8,
+    pub state: Vec<u8>,
     pub memory: Vec<u8>,
     /// The answers of a run, where they are asked for, or what came back of a selection.
     pub shown: Option<Vec<u8>>,
@@ -30,6 +31,7 @@ impl Outcome {
         }
         let (ours, others) = (self.shown.as_deref(), theirs.shown.as_deref());
         first_difference(shown, ours.unwrap_or(&[]), others.unwrap_or(&[]))
+            .or_else(|| first_difference("state byte", &self.state, &theirs.state))
             .or_else(|| first_difference("memory byte", &self.memory, &theirs.memory))
             .or(Some(String::from("lengths")))
     }
@@ -46,17 +48,17 @@ pub fn first_difference(what: &str, ours: &[u8], theirs: &[u8]) -> Option<String
     Some(format!("{what} {at:#x} is {one:02x} and not {two:02x}"))
 }
 
-/// The bytes of a result that a run fills: count, offset and flag offset.
-pub const OF_RUN: usize = 24;
+/// How long a state is, and how long a result.
+pub const STATE: usize = 32;
+pub const RESULT: usize = 32;
 
-/// Those of one that a selection as bytes fills: the first driven byte and how many are driven.
-pub const OF_SELECTION: usize = 16;
-
-/// Numbers of eight bytes, most significant first, if the result has just the room for them.
+/// Numbers of eight bytes, most significant first, and then zeros, if the result has its length; any
+/// other is left.
 pub fn result_of(length: usize, numbers: &[u64]) -> Vec<u8> {
-    if length == 8 * numbers.len() {
-        numbers.iter().flat_map(|it| it.to_be_bytes()).collect()
-    } else {
-        vec![LEFT; length]
+    if length != RESULT {
+        return vec![LEFT; length];
     }
+    let mut result: Vec<u8> = numbers.iter().flat_map(|it| it.to_be_bytes()).collect();
+    result.resize(length, 0);
+    result
 }

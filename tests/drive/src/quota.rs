@@ -1,14 +1,14 @@
-//! The run rule through quotas, since no call goes on where another stopped: what a run that is
-//! stopped gives back is told from the whole run, and the twin is not asked.
+//! The run rule through quotas: what a run that is stopped gives back is told from the whole run, and
+//! the twin is not asked.
 
 use crate::call::{Agreed, Call};
 use crate::Ran;
 use twin::trace::after;
 
 /// What a run gives back that so many events stop, told from the whole run: a flag stands if it came
-/// before the stop, and else there is none. 1 and 3 are tested before the quota.
+/// before the stop, and else there is none. 2 and 3 are tested before the quota.
 fn stopped(trace: &[u8], whole: &Ran, quota: u64) -> Ran {
-    if quota > whole.count || matches!(whole.number, 1..=3) {
+    if quota > whole.count || matches!(whole.number, 2 | 3) {
         return *whole;
     }
     let (offset, _) = after(trace, quota);

@@ -32,14 +32,19 @@ impl When {
 }
 
 impl Refused {
-    /// The byte of the event that a run's offset names: the first of a bad sample (6), start address
-    /// (10) or expected value (11), else the kind byte.
+    /// The byte of the event that a run's offset names.
     pub fn place(&self) -> usize {
-        match self.number {
-            6 | 11 => 1,
-            10 => 2,
-            _ => 0,
-        }
+        place(self.number)
+    }
+}
+
+/// The byte of an event that a run's offset names if it is refused with this number: the first of a bad
+/// sample (6), start address (10) or expected value (11), else the kind byte.
+pub fn place(number: u8) -> usize {
+    match number {
+        6 | 11 => 1,
+        10 => 2,
+        _ => 0,
     }
 }
 

@@ -83,6 +83,8 @@ pub struct ByteTally {
     pub stored: u64,
     /// Selections by their number.
     pub numbers: [u64; 14],
+    /// Selections by the number that ended the trace before.
+    pub before: [u64; 12],
 }
 
 impl ByteTally {
@@ -91,6 +93,7 @@ impl ByteTally {
         self.driven += agreed.selected.count;
         self.stored += agreed.stored;
         self.numbers[usize::from(agreed.selected.number)] += 1;
+        self.before[usize::from(agreed.before.number)] += 1;
     }
 }
 

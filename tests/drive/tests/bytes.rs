@@ -1,7 +1,9 @@
 //! Selections as bytes: every line of the vectors, and generated cases on the proved build, on the
 //! twin and on the proved build's own pins.
 
+use drive::bad_bytes::LEVELS;
 use drive::byte_call::ByteCall;
+use drive::script::Script;
 use drive::tally::ByteTally;
 use drive::Making;
 use twin::gen::{self, Rng};
@@ -44,6 +46,31 @@ fn vectors() {
     assert_eq!(rows().count(), 300);
 }
 
+/// With SRWD set, a WRSR with WP# low is dropped: the status register that is then read tells which
+/// levels are low. Only 0 is.
+#[test]
+fn levels_of_wp() {
+    for (part, wp) in (0..3).flat_map(|part| LEVELS.map(|wp| (part, wp))) {
+        let mut state = drive::made(Making::new(part, 0, 0));
+        let mut memory = first_memory(PARTS[part as usize].size);
+        let mut script = Script::spi();
+        script.command(&[0x06]);
+        script.command(&[0x01, 0x80]);
+        script.command(&[0x06]);
+        let ran = drive::run_on(&mut state, u64::MAX, script.trace(), &mut memory, None);
+        assert_eq!(ran.number, 0);
+        let mut select = |input: [u8; 2]| {
+            let mut output = [0; 2];
+            let selected = drive::select_on(&mut state, wp, &input, &mut output, &mut memory);
+            assert_eq!(selected.number, 0);
+            output[1]
+        };
+        select([0x01, 0x04]);
+        let status = if wp == 0 { 0x80 } else { 0x04 };
+        assert_eq!(select([0x05, 0x00]), status, "part {part}, WP# {wp}");
+    }
+}
+
 /// So many cases of a part, all that is drawn by a fixed seed.
 fn differential(part: u32, cases: u64) -> ByteTally {
     let mut rng = Rng::new(0xb17e5 + u64::from(part));
@@ -56,26 +83,26 @@ fn differential(part: u32, cases: u64) -> ByteTally {
     tally
 }
 
-/// Most selections are taken, each refusal of theirs is met, and those of bad fields in the trace
-/// before; and they store and drive.
+/// Most selections are taken, each refusal of theirs is met, some traces before them end with a
+/// refused event, those of bad fields among them; and they store and drive.
 fn spi(part: u32) {
     let tally = differential(part, 2_400);
     assert!(2 * tally.numbers[0] > tally.selections, "{tally:?}");
-    let refused = [4, 6, 11, 12, 13].map(|number| tally.numbers[number]);
+    let refused = [12, 13].map(|number| tally.numbers[number]);
     assert!(refused.iter().all(|&count| count > 0), "{tally:?}");
-    let in_trace = tally.numbers[5..12].iter().filter(|&&count| count > 0);
-    assert!(in_trace.count() >= 3, "{tally:?}");
+    let fields = [6, 11].map(|number| tally.before[number]);
+    assert!(fields.iter().all(|&count| count > 0), "{tally:?}");
+    let met = tally.before[1..].iter().filter(|&&count| count > 0);
+    assert!(met.count() >= 4, "{tally:?}");
     assert!(tally.stored > 2 * tally.selections, "{tally:?}");
     assert!(tally.driven > 2 * tally.selections, "{tally:?}");
 }
 
-/// All are refused, mostly with 4, and with each number of a bad field.
+/// All are refused with 4, whatever ended the trace before, among it each number of a bad field.
 fn i2c(part: u32) {
     let tally = differential(part, 600);
-    assert!(tally.numbers[4] > 300, "{tally:?}");
-    let in_trace: u64 = tally.numbers[5..12].iter().sum();
-    assert_eq!(tally.numbers[4] + in_trace, 600, "{tally:?}");
-    let fields = [6, 10, 11].map(|number| tally.numbers[number]);
+    assert_eq!(tally.numbers[4], 600, "{tally:?}");
+    let fields = [6, 10, 11].map(|number| tally.before[number]);
     assert!(fields.iter().all(|&count| count > 0), "{tally:?}");
 }
 

@@ -173,10 +173,10 @@ fn changed(before: &Ledger, after: &Ledger) -> [u64; 2] {
     [memory, before.bits() != after.bits()].map(u64::from)
 }
 
-/// A list of selections as bytes on a SPI part. Each call makes a model of its own, so those before
-/// it go in as their pin events. The memory that the call leaves is the ledger's; then the power is
-/// cut after the same selection as pin events, and the ledger tells what is left of memory and bits.
-/// How often either changed.
+/// A list of selections as bytes on a SPI part. Each comes after a new making, with those before it as
+/// their pin events. The memory that the call leaves is the ledger's; then the power is cut after the
+/// same selection as pin events, and the ledger tells what is left of memory and bits. How often
+/// either changed. (`image_cuts.rs` has them on one image.)
 fn follow_list(making: Making, rng: &mut Rng) -> [u64; 2] {
     let mut bench = Bench::new(making);
     let mut told = bench.ledger();

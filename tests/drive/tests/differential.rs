@@ -1,6 +1,7 @@
-//! Generated traces on the proved build and on the twin: number, answers, count, offset, flag offset
-//! and the whole memory are equal, for the whole trace and for runs that a quota stops in it, one of
-//! them just before the flagged event, one with it and one behind it.
+//! Generated traces on the proved build and on the twin: number, answers, count, offset, flag offset,
+//! state and the whole memory are equal, for the whole trace and for runs that a quota stops in it, one
+//! of them just before the flagged event, one with it and one behind it; and the whole trace one event
+//! at a time on one image.
 
 use drive::call::Call;
 use drive::tally::{refusals, Tally};
@@ -12,6 +13,7 @@ fn compare(case: Case, rng: &mut Rng, tally: &mut Tally) {
     let whole = Call::of(case);
     let compared = whole.compare().and_then(|agreed| {
         let drawn = rng.below(agreed.ran.count + 2);
+        whole.compare_singly()?;
         whole.compare_stopped(&agreed, drawn).map(|_| agreed)
     });
     let agreed = compared.unwrap_or_else(|difference| panic!("{difference}: {whole}"));

@@ -1,10 +1,46 @@
 //! Bad input and limits: the right number, and nothing changed that must not be.
 
+use drive::archive;
+use drive::ask::Ask;
 use drive::bad::{self, Bad};
 use drive::bad_bytes;
+use drive::held::Held;
+use drive::lengths;
+use drive::outcome::{LEFT, RESULT, STATE};
+use drive::refused;
 use drive::tally::refusals;
+use drive::Making;
 use std::collections::BTreeSet;
 use twin::{Part, PARTS};
+
+/// What a making with a state of this length gives, and what it leaves there.
+fn made(making: Making, length: usize) -> (u8, Vec<u8>) {
+    let mut state = vec![LEFT; length];
+    let number = archive::make(making, state.as_mut_slice().into());
+    (number, state)
+}
+
+/// No such part, pins or bits: 1, which comes before 2, and the state is left as it is.
+#[test]
+fn every_bad_making() {
+    for making in bad::no_makings() {
+        for length in 0..=40 {
+            assert_eq!(made(making, length), (1, vec![LEFT; length]), "{making}");
+        }
+    }
+}
+
+/// A making that a part can have: 2 for a state of any other length, which is left as it is.
+#[test]
+fn every_good_making_with_another_length() {
+    for making in drive::good_makings() {
+        let (number, state) = made(making, STATE);
+        assert_eq!((number, state), (0, drive::made(making)), "{making}");
+        for length in (0..=40).filter(|&it| it != STATE) {
+            assert_eq!(made(making, length), (2, vec![LEFT; length]), "{making}");
+        }
+    }
+}
 
 /// What is given back is written in the table; all else is compared with the twin, for which a
 /// refusal changes nothing.
@@ -16,6 +52,39 @@ fn every_bad_call() {
             .unwrap_or_else(|difference| panic!("{difference}: {call}"));
         assert_eq!((agreed.ran, agreed.changed), (ran, changed), "{call}");
     }
+}
+
+/// Each refused event by itself, at rest and without power, and with bytes after it that are not looked
+/// at: its number, nothing driven, no flag, and neither state nor memory is changed. An event that is
+/// cut short has nothing after it.
+#[test]
+fn every_bad_event() {
+    for part in &PARTS {
+        let [unpowered, powered] = lengths::models(part.number);
+        for refused in refused::events(part) {
+            let longer = [&refused.event[..], &[4, 0, 3]].concat();
+            let events = match refused.number {
+                5 => vec![refused.event],
+                _ => vec![refused.event, longer],
+            };
+            for (held, has_power) in [(&unpowered, false), (&powered, true)] {
+                if refused.when.holds(has_power) {
+                    let each = events.iter().cloned();
+                    each.for_each(|event| refuse(held, event, refused.number));
+                }
+            }
+        }
+    }
+}
+
+fn refuse(held: &Held, event: Vec<u8>, number: u8) {
+    let mut left = held.clone();
+    let about = format!("{event:x?}");
+    let gave = left.ask(&Ask::Event(event));
+    let mut result = vec![0; RESULT];
+    result[0] = 2;
+    assert_eq!((gave.number, gave.result), (number, result), "{about}");
+    assert!(left == *held, "{about}");
 }
 
 /// The calls of a part in the table.
@@ -37,7 +106,7 @@ fn the_table_has_each_number() {
             met.map(|bad| bad.ran.number).collect()
         };
         let of_events: BTreeSet<u8> = refusals(part).map(|number| number as u8).collect();
-        let all = &of_events | &BTreeSet::from([0, 1, 3]);
+        let all = &of_events | &BTreeSet::from([0, 2, 3]);
         assert_eq!(numbers(|_| true), all, "part {}", part.number);
         let front = numbers(|bad| bad.ran.number > 3 && bad.ran.count == 0);
         assert_eq!(front, &of_events - &BTreeSet::from([8, 9]));
@@ -89,8 +158,7 @@ fn every_bad_selection() {
     }
 }
 
-/// Each number is met, those of events on either bus, 10 on I2C alone; and good selections store,
-/// drive, and have no bytes.
+/// Each number is met, 4 on I2C alone; and good selections store, drive, and have no bytes.
 #[test]
 fn the_selections_have_each_number_and_good_ones() {
     let calls = bad_bytes::calls();
@@ -98,10 +166,8 @@ fn the_selections_have_each_number_and_good_ones() {
         let of_bus = calls.iter().filter(|bad| (bad.call.making.part < 3) == spi);
         of_bus.map(|bad| bad.number).collect()
     };
-    let all = BTreeSet::from([0, 1, 3, 4, 5, 6, 7, 8, 9, 11, 12, 13]);
-    assert_eq!(numbers(true), all);
-    let on_i2c = BTreeSet::from([1, 3, 4, 5, 6, 7, 8, 9, 10, 11]);
-    assert_eq!(numbers(false), on_i2c);
+    assert_eq!(numbers(true), BTreeSet::from([0, 2, 3, 12, 13]));
+    assert_eq!(numbers(false), BTreeSet::from([2, 3, 4]));
     let good = || calls.iter().filter(|bad| bad.number == 0);
     let agreed = || good().filter_map(|bad| bad.call.compare().ok());
     assert!(agreed().filter(|it| it.stored == 3).count() >= 3 * 16);

@@ -1,5 +1,6 @@
-//! Every line of the vectors agrees with the proved build and with the twin: number, count,
-//! offset, answers, changed cells and flag offset, which on lines without its column is the twin's.
+//! Every line of the vectors agrees with the proved build, as one run and one event at a time, and with
+//! the twin: number, count, offset, answers, changed cells and flag offset, which on lines without its
+//! column is the twin's.
 
 use drive::call::Call;
 use drive::{Making, Ran};
@@ -11,13 +12,16 @@ const FIELDS: &str = include_str!("../../vectors/fields.txt");
 const FLAGS: &str = include_str!("../../vectors/flags.txt");
 const MORE: &str = include_str!("../../vectors/more.txt");
 
+fn making(line: &Line) -> Making {
+    Making::new(line.part, line.pins, line.bits)
+}
+
 /// What the proved build gives for a line's making and trace, and the line that this makes.
 fn proved(line: &Line) -> (Ran, Line) {
-    let making = Making::new(line.part, line.pins, line.bits);
     let mut memory = first_memory(PARTS[line.part as usize].size);
     let mut answers = vec![0xff; line.trace.len()];
     let ran = drive::run(
-        making,
+        making(line),
         u64::MAX,
         &line.trace,
         &mut memory,
@@ -57,6 +61,8 @@ fn check(text: &str, flag_column: bool) -> Lines {
         let (ran, same) = proved(&line);
         assert_eq!(same, line, "the proved build differs");
         assert_eq!(ran, twin(&line), "the two differ: {line}");
+        let call = Call::whole(making(&line), line.trace.clone());
+        assert_eq!(call.compare_singly(), Ok(()), "{line}");
         lines.all += 1;
         lines.flagged += usize::from(ran.flag < line.trace.len() as u64);
     }
@@ -84,8 +90,7 @@ fn flags() {
 #[test]
 fn flags_by_ledger_and_quota() {
     for line in parsed(FLAGS) {
-        let making = Making::new(line.part, line.pins, line.bits);
-        let call = Call::whole(making, line.trace);
+        let call = Call::whole(making(&line), line.trace);
         let compared = call.compare().and_then(|agreed| {
             let half = agreed.ran.count / 2;
             call.compare_stopped(&agreed, half).map(|_| agreed)

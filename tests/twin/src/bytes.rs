@@ -52,6 +52,7 @@ impl Spi {
         let selected = self.show(op, input, output, memory);
         self.take(op, wp, input, memory);
         self.old = last_sample(wp, input);
+        self.rest();
         selected
     }
 

@@ -1,5 +1,6 @@
 //! An independent model of the five parts, kept as a second opinion: it is written from the papers
 //! of scope and of change requests alone and shares no line with the build that it is compared with.
+//! Only the layout of its images is taken from docs/IMAGE.md, which both have to follow.
 
 #![forbid(unsafe_code)]
 
@@ -7,6 +8,7 @@ pub mod bytes;
 mod event;
 pub mod gen;
 pub mod i2c;
+pub mod image;
 pub mod ledger;
 pub mod model;
 pub mod part;

@@ -9,21 +9,20 @@ use crate::spi::Spi;
 use crate::NOTHING;
 
 #[derive(Clone, Debug, PartialEq, Eq)]
-enum Power {
+pub(crate) enum Power {
     Off,
     Spi(Spi),
     I2c(I2c),
 }
 
-/// A model. Its states are those that its own calls reach, so the numbers 1 and 2 arise only at
-/// making.
+/// A model. Its states are those that have an image, so the numbers 1 and 2 arise only at making.
 #[derive(Clone, Debug, PartialEq, Eq)]
 pub struct Model {
-    part: &'static Part,
-    pins: u8,
-    /// SRWD BP1 BP0 as kept without power; under power the bus holds them.
-    saved: u8,
-    power: Power,
+    pub(crate) part: &'static Part,
+    pub(crate) pins: u8,
+    /// SRWD BP1 BP0 as kept without power; under power the bus holds them, and here is 0.
+    pub(crate) saved: u8,
+    pub(crate) power: Power,
 }
 
 /// What a run gives back besides the model.
@@ -62,7 +61,7 @@ impl Model {
         }
     }
 
-    fn unpowered(part: &'static Part, pins: u8, saved: u8) -> Model {
+    pub(crate) fn unpowered(part: &'static Part, pins: u8, saved: u8) -> Model {
         Model {
             part,
             pins,
@@ -204,7 +203,8 @@ impl Model {
             (Event::Sample(sample), Power::I2c(i2c)) => Ok(i2c.sample(sample, memory)),
             (Event::Off | Event::Sample(_) | Event::Expect(_), Power::Off) => Err(7),
             (Event::SpiOn(sample), Power::Off) => {
-                self.power = Power::Spi(Spi::power_on(self.part, self.saved, sample));
+                let bits = std::mem::take(&mut self.saved);
+                self.power = Power::Spi(Spi::power_on(self.part, bits, sample));
                 Ok(Given::unflagged(NOTHING))
             }
             (Event::I2cOn(sample, start), Power::Off) => {

@@ -1,7 +1,7 @@
 //! WP moved where it is to be still, with nothing wrong: which event has the flag first is written
-//! here, and so is what quotas and results make of it.
+//! here, and so is what quotas make of it.
 
-use super::{plain, Bad, RESULTS};
+use super::{plain, Bad};
 use crate::call::Call;
 use crate::refused::power_on;
 use twin::part::{i2c_pin, spi_pin, Wires};
@@ -33,8 +33,8 @@ impl Moving {
     }
 }
 
-/// WP moved twice, with every quota up to one more than there are events and with every length of a
-/// result: the first move counts, if it comes before the quota.
+/// WP moved twice, with every quota up to one more than there are events: the first move counts, if it
+/// comes before the quota.
 pub(super) fn calls(part: &Part) -> Vec<Bad> {
     let Moving { trace, still, flag } = Moving::new(part);
     let whole = Call::whole(plain(part.number), trace);
@@ -47,10 +47,5 @@ pub(super) fn calls(part: &Part) -> Vec<Bad> {
         }
     };
     let events = events(&whole.trace).count() as u64;
-    let with = |result| Call {
-        result,
-        ..whole.clone()
-    };
-    let results = RESULTS.map(|it| Bad::accepted(with(it), 0).flagged(flag));
-    (0..=events + 1).map(stopped).chain(results).collect()
+    (0..=events + 1).map(stopped).collect()
 }

@@ -3,7 +3,10 @@
 
 use drive::byte_call::ByteCall;
 use drive::call::{Agreed, Call};
+use drive::held::Pair;
+use drive::mixed::Mixed;
 use drive::tally::{head, ByteTally, Tally};
+use drive::Making;
 use std::process::ExitCode;
 use std::time::{Duration, Instant};
 use twin::gen::{self, Case, Knobs, Rng};
@@ -51,12 +54,15 @@ fn main() -> ExitCode {
     }
 }
 
-/// Each part in turn; each trace whole with its answers, then without them up to a quota, and up to
-/// those around its flagged event. Then, on a SPI part, a selection as bytes.
+/// Each part in turn; each trace whole with its answers, one event at a time, then without answers up
+/// to a quota, and up to those around its flagged event. Then, on a SPI part, a selection as bytes,
+/// and some calls on the one image that the part keeps throughout.
 fn soak(until: &Until, seed: u64) -> Result<(), String> {
-    let mut rng = Rng::new(seed);
+    // The calls on the kept images are drawn apart, so that a seed's traces do not depend on them.
+    let (mut rng, mut of_kept) = (Rng::new(seed), Rng::new(!seed));
     let mut tallies: [Tally; PARTS.len()] = Default::default();
     let mut selections = ByteTally::default();
+    let mut kept: Vec<Kept> = PARTS.iter().map(|part| Kept::new(part.number)).collect();
     let begun = Instant::now();
     let mut accepted = 0;
     while !until.reached(accepted, begun) {
@@ -72,11 +78,46 @@ fn soak(until: &Until, seed: u64) -> Result<(), String> {
                 let agreed = call.compare();
                 selections.add(&agreed.map_err(|difference| format!("{difference}: {call}"))?);
             }
+            kept[part.number as usize].calls(&mut of_kept)?;
         }
     }
     report(&tallies, accepted, begun.elapsed());
     println!("{selections}");
+    let calls: u64 = kept.iter().map(|kept| kept.calls).sum();
+    println!("{calls} calls compared on one image of each part");
     Ok(())
+}
+
+/// A model that lasts as long as the comparison.
+struct Kept {
+    pair: Pair,
+    mixed: Mixed,
+    calls: u64,
+}
+
+impl Kept {
+    fn new(part: u32) -> Kept {
+        let table = &PARTS[part as usize];
+        let making = Making::new(part, table.max_pins, table.max_bits);
+        Kept {
+            pair: Pair::new(making),
+            mixed: Mixed::new(making),
+            calls: 0,
+        }
+    }
+
+    /// A few calls more.
+    fn calls(&mut self, rng: &mut Rng) -> Result<(), String> {
+        for _ in 0..5 {
+            let ask = self.mixed.draw(rng, self.pair.model.powered());
+            let state = self.pair.held.state.clone();
+            let gave = self.pair.ask(&ask);
+            let gave = gave.map_err(|it| format!("{it}: on {state:02x?}, {ask:02x?}"))?;
+            self.mixed.asked(&ask, &gave);
+            self.calls += 1;
+        }
+        Ok(())
+    }
 }
 
 /// A case with traces up to ten times as long as the tests have them.
@@ -94,9 +135,11 @@ fn case(rng: &mut Rng, part: u32) -> Case {
     }
 }
 
-/// What both gave, or the call with the quota at which they first differ.
+/// What both gave, also one event at a time, or the call with the quota at which they first differ.
 fn compared(call: &Call) -> Result<Agreed, String> {
-    call.compare().map_err(|difference| {
+    let agreed = call.compare();
+    let agreed = agreed.and_then(|agreed| call.compare_singly().map(|()| agreed));
+    agreed.map_err(|difference| {
         let differs = |&quota: &u64| call.stopped(quota).compare().is_err();
         let quota = (0..=call.trace.len() as u64).find(differs);
         format!("{difference}, first with quota {quota:?}: {call}")

@@ -1,16 +1,16 @@
 //! Streams of pin events: one long trace on either side, no answers collected.
 
 use crate::{median, timed};
-use drive::streams::{kinds, spi_read, spi_write, Stream};
+use drive::streams::{spi_read, spi_write, Stream};
 use drive::{Making, Ran};
 use std::hint::black_box;
 use twin::{Model, PARTS};
 
 /// Prints the table; the ratio of each stream.
-pub fn table(rounds: usize) -> Vec<f64> {
+pub fn table(streams: &[Stream], rounds: usize) -> Vec<f64> {
     println!("                                       million events a second     ns an event");
     println!("stream         memory      events      proved        twin   ratio  proved    twin");
-    let mut ratios: Vec<f64> = kinds().iter().map(|it| measure(it, rounds)).collect();
+    let mut ratios: Vec<f64> = streams.iter().map(|it| measure(it, rounds)).collect();
     println!("\nthe same stream on memories of three sizes");
     for part in 0..3 {
         ratios.push(measure(&spi_write(part), rounds));

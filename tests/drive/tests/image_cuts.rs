@@ -1,0 +1,158 @@
+//! Demand 3 on one image: power is cut after every event and before the first, and after selections as
+//! bytes among them, each time on a copy. What is left is, byte for byte, the image that a making with
+//! the ledger's bits writes, and the ledger's memory; the twin's model is not asked.
+
+use drive::ask::Ask;
+use drive::held::Held;
+use drive::{made, Making};
+use twin::gen::{self, Case, Rng};
+use twin::part::Wires;
+use twin::pins::spelled;
+use twin::trace::events;
+use twin::{Ledger, PARTS};
+
+/// A model on the proved build, with the ledger of what it accepted.
+struct Followed {
+    making: Making,
+    held: Held,
+    ledger: Ledger,
+    powered: bool,
+    /// Cuts that left another memory or other bits than the one before.
+    changes: u64,
+}
+
+impl Followed {
+    fn new(making: Making) -> Followed {
+        let held = Held::new(making);
+        let Making { part, pins, bits } = making;
+        Followed {
+            making,
+            ledger: Ledger::begin(part, pins, bits, &held.memory),
+            held,
+            powered: false,
+            changes: 0,
+        }
+    }
+
+    /// A power off on a copy, which without power is refused and changes nothing.
+    fn cut(&self) {
+        let mut copy = self.held.clone();
+        let gave = copy.ask(&Ask::Event(vec![3]));
+        assert_eq!(gave.number, if self.powered { 0 } else { 7 });
+        let fresh = Making {
+            bits: u32::from(self.ledger.bits_after_cut()),
+            ..self.making
+        };
+        assert_eq!(copy.state, made(fresh), "{:x?}", self.held.state);
+        let same = copy.memory == self.ledger.memory();
+        assert!(same, "memory after {:x?}", self.held.state);
+    }
+
+    /// One event, and a cut after it. A refused one is not the ledger's.
+    fn event(&mut self, event: &[u8]) {
+        let gave = self.held.ask(&Ask::Event(event.to_vec()));
+        if gave.number == 0 {
+            let flag = self.feed(event, gave.result[0]);
+            assert_eq!(gave.result[1], u8::from(flag), "{event:x?}");
+            self.powered = event[0] != 3;
+        }
+        self.cut();
+    }
+
+    /// An accepted event goes into the ledger; its flag.
+    fn feed(&mut self, event: &[u8], answer: u8) -> bool {
+        let before = self.ledger.clone();
+        let flag = self.ledger.feed(event, answer);
+        let same = before.memory() == self.ledger.memory() && before.bits() == self.ledger.bits();
+        self.changes += u64::from(!same);
+        flag
+    }
+
+    /// A selection as bytes, and a cut after it; whether it was taken. The ledger is fed the answers
+    /// of the same selection as samples, on a copy, which leaves the same state and memory.
+    fn select(&mut self, wp: bool, input: Vec<u8>) -> bool {
+        let trace = spelled(wp, &input);
+        let mut by_pins = self.held.clone();
+        let select = Ask::Select {
+            wp: u32::from(wp),
+            room: input.len(),
+            input,
+        };
+        let taken = self.held.ask(&select).number == 0;
+        if taken {
+            let replay = Ask::Replay {
+                quota: u64::MAX,
+                room: trace.len() / 2,
+                trace: trace.clone(),
+            };
+            let gave = by_pins.ask(&replay);
+            assert!(self.held == by_pins, "{select:x?}: not the same as by pins");
+            for (event, answer) in events(&trace).zip(gave.shown) {
+                assert!(!self.feed(event, answer), "{select:x?}: a flag");
+            }
+        }
+        self.cut();
+        taken
+    }
+}
+
+/// A trace, on an SPI part with selections as bytes among its events; how often something changed, and
+/// how many selections were taken.
+fn follow(case: &Case, rng: &mut Rng) -> (u64, u64) {
+    let making = Making::new(case.part, case.pins, case.bits);
+    let spi = PARTS[case.part as usize].wires == Wires::Spi;
+    let mut followed = Followed::new(making);
+    let mut taken = 0;
+    followed.cut();
+    for event in events(&case.trace) {
+        followed.event(event);
+        if spi && rng.chance(30) {
+            if rng.chance(700) {
+                taken += u64::from(followed.select(rng.chance(500), vec![6]));
+            }
+            let input = gen::selection_bytes(rng, case.part);
+            taken += u64::from(followed.select(rng.chance(500), input));
+        }
+    }
+    (followed.changes, taken)
+}
+
+/// So many traces of a part.
+fn follow_part(part: u32, traces: u64) {
+    let mut rng = Rng::new(0x1c075 + u64::from(part));
+    let (mut changes, mut taken) = (0, 0);
+    for _ in 0..traces {
+        let case = gen::case_of(&mut rng, part);
+        let (changed, selected) = follow(&case, &mut rng);
+        changes += changed;
+        taken += selected;
+    }
+    assert!(changes > traces, "only {changes} changes");
+    let spi = PARTS[part as usize].wires == Wires::Spi;
+    assert_eq!(spi, taken > traces, "{taken} selections");
+}
+
+#[test]
+fn part_0() {
+    follow_part(0, 100);
+}
+
+#[test]
+fn part_1() {
+    follow_part(1, 40);
+}
+
+#[test]
+fn part_2() {
+    follow_part(2, 40);
+}
+
+#[test]
+fn part_3() {
+    follow_part(3, 100);
+}
+
+#[test]
+fn part_4() {
+    follow_part(4, 40);
+}
