@@ -2,8 +2,8 @@
 -- answers, output and memory of the call on the state, and leaves the image of the state that this leaves. A refused call leaves what it
 -- was given, and what a call leaves in the place of an image is one. Assumes nothing.
 use Prim.Native.Nat.{ℕ}
-use mathlib.Core.Path.{_≡_, refl, sym, ap, _∙_}
-use mathlib.Core.Bool.{Bool, true, false, cond, _&&_}
+use mathlib.Core.Path.{_≡_, refl, ap}
+use mathlib.Core.Bool.{Bool, true, false, cond}
 use mathlib.Core.List.{List}
 use lib.Dec.{eqb}
 use lib.ListN.{length}
@@ -17,10 +17,10 @@ use Rattle.runs.specs.Run.{runOf}
 use Rattle.model.specs.declared.make.Made.{Made}
 use Rattle.model.specs.Make.{makeOf}
 use Rattle.image.specs.Taken.{imageOf, stateOf, inRange, taken}
-use Rattle.image.proofs.TakenLaws.{Bytes, encode-decode, decode-encode, image-taken, taken-passes}
+use Rattle.image.proofs.TakenLaws.{decode-encode, image-taken, taken-passes}
 use Rattle.calls.specs.Result.{eventResult, runResult, selectResult}
-use Rattle.calls.specs.Calls.{opens, stateNumber, MakeCall, makeInto, makeCall, EventCall, eventLeft, eventCall, RunCall, runLeft, runCall, SelectCall, selectLeft, selectCall}
-use Rattle.calls.proofs.InRange.{make-range, event-range, run-range, select-range}
+use Rattle.calls.specs.Calls.{opens, stateNumber, MakeCall, makeCall, eventLeft, eventCall, runLeft, runCall, selectLeft, selectCall}
+use Rattle.calls.proofs.InRange.{event-range, run-range, select-range}
 
 -- ---- on the image of a state that passes 1 and 2, with a result of 32 bytes
 

@@ -1,4 +1,4 @@
--- A refused call changes nothing but its result: not the image, not the memory, not the output. Assumes nothing.
+-- A refused event or selection as bytes changes nothing but its result: not the image, not the memory, not the output. Assumes nothing.
 use Prim.Native.Nat.{ℕ}
 use mathlib.Core.Path.{_≡_, refl, ap, _∙_}
 use mathlib.Core.Bool.{Bool, true, false, cond}
@@ -19,8 +19,8 @@ use Rattle.byte_path.specs.PinPath.{selectionOf}
 use Rattle.byte_path.specs.Select.{Select, refusedSelect, takenSelect, sizedSelect, busSelect, verdictSelect, selectOf}
 use Rattle.runs.specs.Event.{eventOf}
 use Rattle.runs.proofs.EventLaws.{event-stays}
-use Rattle.image.specs.Taken.{imageOf, stateOf}
-use Rattle.image.proofs.TakenLaws.{Bytes, encode-decode}
+use Rattle.image.specs.Taken.{imageOf, stateOf, Bytes}
+use Rattle.image.proofs.TakenLaws.{encode-decode}
 use Rattle.calls.specs.Calls.{opens, stateNumber, EventCall, eventLeft, eventCall, SelectCall, selectLeft, selectCall}
 use Rattle.calls.specs.Result.{eventResult, selectResult}
 

@@ -1,27 +1,24 @@
 -- How a call begins: with 0 the image is taken and state and memory pass 1 to 3; with 2 or 3 the call is refused, and leaves what it was
 -- given. Assumes nothing.
 use Prim.Native.Nat.{ℕ}
-use mathlib.Core.Path.{_≡_, refl, sym, _∙_}
-use mathlib.Core.Bool.{Bool, true, false, cond, _&&_}
+use mathlib.Core.Path.{_≡_, refl}
+use mathlib.Core.Bool.{Bool, true, false, cond}
 use mathlib.Core.List.{List}
 use native.Mathlib.Omega.{arith}
 use lib.Dec.{eqb}
 use lib.ListN.{length}
-use lib.Seq.{sets}
-use borrow.Author.Tests.{eqb-true}
 use Rattle.parts.specs.Table.{partOf}
 use Rattle.parts.proofs.Rows.{and-both}
 use Rattle.chip.specs.declared.check.Verdict.the-variants.{Passed, Failed}
 use Rattle.parts.specs.declared.refusal.Refusal.the-variants.{MemoryLength}
 use Rattle.chip.specs.declared.model.Model.{Model}
-use Rattle.chip.specs.Check.{modelIn, busIn, checkOf, Sound}
+use Rattle.chip.specs.Check.{modelIn, checkOf, Sound}
 use Rattle.byte_path.specs.Select.{selectOf}
 use Rattle.runs.specs.Event.{eventOf}
 use Rattle.runs.specs.Run.{runOf}
-use Rattle.image.specs.Taken.{imageOf, stateOf, inRange, taken}
-use Rattle.image.proofs.TakenLaws.{Bytes, encode-decode, taken-passes, taken-long}
-use Rattle.calls.specs.Result.{eventResult, runResult, selectResult}
-use Rattle.calls.specs.Calls.{opens, EventCall, eventCall, RunCall, runCall, SelectCall, selectCall, openNumber}
+use Rattle.image.specs.Taken.{imageOf, stateOf, inRange, taken, Bytes}
+use Rattle.image.proofs.TakenLaws.{encode-decode, taken-passes}
+use Rattle.calls.specs.Calls.{opens, eventCall, runCall, selectCall, openNumber, eventKept, runKept, selectKept}
 
 -- a state that passes 1 and 2 fails 3 by the memory's length only
 pub check-by : (s : Model) (n : ℕ) (z : Bool) → inRange s ≡ true → eqb n (partOf (s .part) .size) ≡ z → checkOf s n ≡ cond z Passed (Failed MemoryLength)
@@ -58,15 +55,6 @@ module _ (b result m : List ℕ) where
 
   -- ---- with 2 or 3
 
-  abbrev eventKept : List ℕ → EventCall
-  eventKept t = record { number = number; state = b; memory = m; result = eventResult 2 false result }
-
-  abbrev runKept : List ℕ → List ℕ → RunCall
-  runKept t answers = record { number = number; state = b; memory = m; answers = answers; result = runResult 0 0 (length t) result }
-
-  abbrev selectKept : List ℕ → SelectCall
-  selectKept output = record { number = number; state = b; memory = m; output = output; result = selectResult 0 0 result }
-
   -- the buffers are right, and the memory's length is not
   module _ (bytes : Bytes b) (e : opens b result ≡ true) (k : eqb (length m) size ≡ false) where
     same : imageOf (stateOf b) ≡ b
@@ -75,27 +63,27 @@ module _ (b result m : List ℕ) where
     failed : checkOf (stateOf b) (length m) ≡ Failed MemoryLength
     failed = check-by (stateOf b) (length m) false (taken-passes b (opened-taken e)) k
 
-    event-three : (t : List ℕ) → eventCall b t m result ≡ eventKept t
+    event-three : (t : List ℕ) → eventCall b t m result ≡ eventKept b m result
     unfolding eventCall eventOf openNumber
     event-three t = rw (e, failed, k, same)
 
-    run-three : (t : List ℕ) (quota : ℕ) (answers : List ℕ) → runCall b t quota m answers result ≡ runKept t answers
+    run-three : (t : List ℕ) (quota : ℕ) (answers : List ℕ) → runCall b t quota m answers result ≡ runKept b m result t answers
     unfolding runCall runOf openNumber
     run-three t quota answers = rw (e, failed, k, same)
 
-    select-three : (wp : Bool) (input output : List ℕ) → selectCall b wp input output m result ≡ selectKept output
+    select-three : (wp : Bool) (input output : List ℕ) → selectCall b wp input output m result ≡ selectKept b m result output
     unfolding selectCall selectOf openNumber
     select-three wp input output = rw (e, failed, k, same)
 
-  event-two : opens b result ≡ false → (t : List ℕ) → eventCall b t m result ≡ eventKept t
+  event-two : opens b result ≡ false → (t : List ℕ) → eventCall b t m result ≡ eventKept b m result
   unfolding eventCall openNumber
   event-two e t = rw e
 
-  run-two : opens b result ≡ false → (t : List ℕ) (quota : ℕ) (answers : List ℕ) → runCall b t quota m answers result ≡ runKept t answers
+  run-two : opens b result ≡ false → (t : List ℕ) (quota : ℕ) (answers : List ℕ) → runCall b t quota m answers result ≡ runKept b m result t answers
   unfolding runCall openNumber
   run-two e t quota answers = rw e
 
-  select-two : opens b result ≡ false → (wp : Bool) (input output : List ℕ) → selectCall b wp input output m result ≡ selectKept output
+  select-two : opens b result ≡ false → (wp : Bool) (input output : List ℕ) → selectCall b wp input output m result ≡ selectKept b m result output
   unfolding selectCall openNumber
   select-two e wp input output = rw e
 
@@ -109,11 +97,11 @@ module _ (b result m : List ℕ) where
       by true false e k h = three e k
       by false z e k h = two e
 
-  pub event-kept : Bytes b → (number ≡ 0 → ⊥) → (t : List ℕ) → eventCall b t m result ≡ eventKept t
+  pub event-kept : Bytes b → (number ≡ 0 → ⊥) → (t : List ℕ) → eventCall b t m result ≡ eventKept b m result
   event-kept bytes h t = refused-by (λ e. event-two e t) (λ e k. event-three bytes e k t) h
 
-  pub run-kept : Bytes b → (number ≡ 0 → ⊥) → (t : List ℕ) (quota : ℕ) (answers : List ℕ) → runCall b t quota m answers result ≡ runKept t answers
+  pub run-kept : Bytes b → (number ≡ 0 → ⊥) → (t : List ℕ) (quota : ℕ) (answers : List ℕ) → runCall b t quota m answers result ≡ runKept b m result t answers
   run-kept bytes h t quota answers = refused-by (λ e. run-two e t quota answers) (λ e k. run-three bytes e k t quota answers) h
 
-  pub select-kept : Bytes b → (number ≡ 0 → ⊥) → (wp : Bool) (input output : List ℕ) → selectCall b wp input output m result ≡ selectKept output
+  pub select-kept : Bytes b → (number ≡ 0 → ⊥) → (wp : Bool) (input output : List ℕ) → selectCall b wp input output m result ≡ selectKept b m result output
   select-kept bytes h wp input output = refused-by (λ e. select-two e wp input output) (λ e k. select-three bytes e k wp input output) h

@@ -2,7 +2,7 @@
 -- selection as bytes, and what buffers of other lengths get. Computed. Assumes nothing.
 use mathlib.Core.Path.{_≡_, refl}
 use mathlib.Core.Bool.{true}
-use mathlib.Core.List.{[], _∷_, _++_}
+use mathlib.Core.List.{_∷_}
 use lib.ListN.{replicate}
 use Rattle.calls.specs.Result.{eventResult, runResult, selectResult}
 

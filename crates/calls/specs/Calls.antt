@@ -9,7 +9,6 @@ use lib.Seq.{sets}
 use Rattle.parts.specs.declared.refusal.Refusal.the-variants.{StateRange, MemoryLength}
 use Rattle.parts.specs.Numbers.{refusalNumber}
 use Rattle.parts.specs.Table.{partOf}
-use Rattle.chip.specs.declared.model.Model.{Model}
 use Rattle.events.specs.Event.{Outcome}
 use Rattle.byte_path.specs.Select.{Select, selectOf}
 use Rattle.runs.specs.Event.{eventOf}
@@ -117,3 +116,16 @@ selectCall b wp input output m result =
 unfoldable pub openNumber : List ℕ → ℕ → ℕ → ℕ
 openNumber b result memory =
     cond (eqb result 32 && taken b) (cond (eqb memory (partOf (stateOf b .part) .size)) 0 (refusalNumber MemoryLength)) stateNumber
+
+-- and what a call that does not go on gives and leaves
+module _ (b m result : List ℕ) where
+  abbrev pub eventKept : EventCall
+  eventKept = record { number = openNumber b (length result) (length m); state = b; memory = m; result = eventResult 2 false result }
+
+  abbrev pub runKept : List ℕ → List ℕ → RunCall
+  runKept t answers =
+      record { number = openNumber b (length result) (length m); state = b; memory = m; answers = answers; result = runResult 0 0 (length t) result }
+
+  abbrev pub selectKept : List ℕ → SelectCall
+  selectKept output =
+      record { number = openNumber b (length result) (length m); state = b; memory = m; output = output; result = selectResult 0 0 result }

@@ -1,13 +1,12 @@
 -- What passes 1 and 2 fits the bytes of an image: by the ranges of each field. Assumes nothing.
-use Prim.Native.Nat.{ℕ, _^_, _<_, _≤_}
+use Prim.Native.Nat.{ℕ, _<_}
 use mathlib.Core.Path.{_≡_}
-use mathlib.Core.Bool.{Bool, true, not}
+use mathlib.Core.Bool.{true, not}
 use native.Mathlib.Omega.{arith}
 use lib.Dec.{ltb}
 use borrow.Author.Tests.{ltb-true}
 use Rattle.parts.specs.declared.part.Part.{Part}
 use Rattle.parts.specs.declared.status.Status.{Status}
-use Rattle.parts.specs.Status.{bit}
 use Rattle.parts.specs.Table.{isSpi, partOf, Fit}
 use Rattle.parts.proofs.Rows.{and-both, part-fits}
 use Rattle.serial.proofs.BitLaws.{bit-small, small}

@@ -1,8 +1,8 @@
 -- Images and states: each state that passes 1 and 2 has one image, each image that is taken has one state, and a buffer of bytes is taken
 -- exactly if it is such an image. From the laws of the fields. Assumes nothing.
-use Prim.Native.Nat.{ℕ, suc, _+_, _*_, _/_, _%_, _<_, _≤_}
+use Prim.Native.Nat.{ℕ, suc, _+_, _*_, _/_, _%_, _<_}
 use mathlib.Core.Path.{_≡_, refl, sym, ap, _∙_}
-use mathlib.Core.Bool.{Bool, true, false, _&&_}
+use mathlib.Core.Bool.{true, _&&_}
 use mathlib.Core.List.{List, [], _∷_, _++_}
 use native.Mathlib.Omega.{arith}
 use lib.Dec.{eqb}
@@ -17,7 +17,7 @@ use Rattle.image.specs.Bytes.{bytesOf, threeAt}
 use Rattle.image_fields.specs.Fields.{phaseFields, samePhase, sameFields}
 use Rattle.image.specs.Layout.{headBytes, spelled, fieldsIn, Small}
 use Rattle.image_fields.specs.State.{fieldsOf, stateIn}
-use Rattle.image.specs.Taken.{imageOf, stateOf, inRange, zeros, taken}
+use Rattle.image.specs.Taken.{imageOf, stateOf, inRange, zeros, taken, Bytes, ImageOf}
 use Rattle.image.proofs.RangeLaws.{inside, small-fields}
 use Rattle.image_fields.proofs.StateLaws.{state-back}
 
@@ -82,10 +82,6 @@ same-self : (f : Fields) → sameFields f f ≡ true
 same-self f = simp same-itself
 
 -- ---- bytes
-
--- what a buffer of bytes holds, at any index
-abbrev pub Bytes : List ℕ → Type 0
-Bytes b = (i : ℕ) → getD b i 0 < 256
 
 -- twelve bytes that are all 0
 zeros-are : (l : List ℕ) → zeros l ≡ true → l ≡ replicate (length l) 0
@@ -163,12 +159,6 @@ encode-decode b k h =
     ap spelled (taken-fields b h) ∙ bytes-back b (taken-long b h) k (and-both (zeros (drop 20 b)) _ (h1 .1) .0)
 
 -- it is taken exactly if it is the image of a state that passes, and of no other
-pub record ImageOf (b : List ℕ) : Type 0 where
-  pub state : Model
-  pub passes : inRange state ≡ true
-  pub image : imageOf state ≡ b
-  pub only : (s : Model) → inRange s ≡ true → imageOf s ≡ b → s ≡ state
-
 pub taken-is-image : (b : List ℕ) → Bytes b → taken b ≡ true → ImageOf b
 taken-is-image b k h =
     record {
@@ -182,5 +172,5 @@ pub image-is-taken : (b : List ℕ) → ImageOf b → taken b ≡ true
 image-is-taken b i = rw (← i .image) (image-taken (i .state) (i .passes))
 
 -- two states that pass and have one image are one
-pub one-image : (s t : Model) → inRange s ≡ true → inRange t ≡ true → imageOf s ≡ imageOf t → s ≡ t
-one-image s t h k e = sym (decode-encode s h) ∙ ap stateOf e ∙ decode-encode t k
+pub one-state : (s t : Model) → inRange s ≡ true → inRange t ≡ true → imageOf s ≡ imageOf t → s ≡ t
+one-state s t h k e = sym (decode-encode s h) ∙ ap stateOf e ∙ decode-encode t k

@@ -1,10 +1,11 @@
 -- The image of a state, the state of an image, and which buffers are images: those that are the image of the state that they read as, if it
 -- passes 1 and 2.
-use Prim.Native.Nat.{ℕ}
+use Prim.Native.Nat.{ℕ, _<_}
+use mathlib.Core.Path.{_≡_}
 use mathlib.Core.Bool.{Bool, true, _&&_}
 use mathlib.Core.List.{List, [], _∷_}
 use lib.Dec.{eqb}
-use lib.ListN.{length, drop}
+use lib.ListN.{length, drop, getD}
 use Rattle.parts.specs.Table.{partOf}
 use Rattle.chip.specs.declared.model.Model.{Model}
 use Rattle.chip.specs.Check.{modelIn, busIn}
@@ -34,3 +35,14 @@ takesFields f = sameFields (fieldsOf (stateIn f)) f && inRange (stateIn f)
 -- 32 bytes, of which those that no field uses are 0
 unfoldable pub taken : List ℕ → Bool
 taken b = eqb (length b) 32 && (zeros (drop 20 b) && takesFields (fieldsIn b))
+
+-- a buffer that holds bytes, at any index
+abbrev pub Bytes : List ℕ → Type 0
+Bytes b = (i : ℕ) → getD b i 0 < 256
+
+-- a buffer is the image of a state that passes, and of no other
+pub record ImageOf (b : List ℕ) : Type 0 where
+  pub state : Model
+  pub passes : inRange state ≡ true
+  pub image : imageOf state ≡ b
+  pub only : (s : Model) → inRange s ≡ true → imageOf s ≡ b → s ≡ state

@@ -5,8 +5,6 @@ use mathlib.Core.Bool.{Bool, true, false, cond, not, _&&_}
 use native.Mathlib.Omega.{arith}
 use lib.Dec.{eqb, ltb, leb, leb·suc-suc, eqb·zero-suc, eqb·suc-zero}
 use borrow.Author.Tests.{eq-eqb, ne-eqb, eqb-true}
-use Rattle.parts.specs.declared.answer.Answer.{Answer}
-use Rattle.parts.specs.declared.answer.Answer.the-variants.{Low, High, HighZ}
 use Rattle.parts.specs.Numbers.{answerNumber}
 use Rattle.parts.specs.Status.{bit, statusByte}
 use Rattle.serial.proofs.BitLaws.{bit-small}
@@ -15,6 +13,7 @@ use Rattle.transfer.specs.Levels as I2cLevels
 use Rattle.i2c.specs.Sample.{answerOf}
 use Rattle.chip.specs.Check.{bitsClear}
 use Rattle.image_fields.specs.State.{statusIn, answerIn}
+use Rattle.image_fields.proofs.StateLaws.{answer-small}
 
 -- ---- tests
 
@@ -93,11 +92,6 @@ pub i2c-large : (n : ℕ) → 8 ≤ n → eqb (I2cLevels.sampleOf (I2cLevels.lev
 i2c-large n h = ne-eqb _ n (λ e. omega (arith, e, bit-small (eqb (n % 2) 1), bit-small (eqb (n / 2 % 2) 1), bit-small (eqb (n / 4 % 2) 1)))
 
 -- ---- answers
-
-answer-small : (a : Answer) → answerNumber a < 3
-answer-small Low = omega arith
-answer-small High = omega arith
-answer-small HighZ = omega arith
 
 pub shown-small : (n : ℕ) → n < 3 → eqb (answerNumber (answerIn n)) n ≡ true
 shown-small zero h = refl

@@ -1,7 +1,8 @@
 -- A state's fields read as that state: by the laws of each field. Assumes nothing.
-use Prim.Native.Nat.{ℕ, _+_, _*_, _/_, _%_}
+use Prim.Native.Nat.{ℕ, _+_, _*_, _<_}
 use mathlib.Core.Path.{_≡_, refl, ap}
 use mathlib.Core.Bool.{Bool, true, false}
+use native.Mathlib.Omega.{arith}
 use lib.Dec.{eqb}
 use Rattle.parts.specs.declared.answer.Answer.{Answer}
 use Rattle.parts.specs.declared.answer.Answer.the-variants.{Low, High, HighZ}
@@ -35,10 +36,16 @@ use Rattle.image_fields.specs.State.{busFields, fieldsOf, statusIn, answ
 
 -- ---- fields
 
-answer-back : (a : Answer) → answerIn (answerNumber a) ≡ a
+pub answer-back : (a : Answer) → answerIn (answerNumber a) ≡ a
 answer-back Low = refl
 answer-back High = refl
 answer-back HighZ = refl
+
+-- an answer is one of three
+pub answer-small : (a : Answer) → answerNumber a < 3
+answer-small Low = omega arith
+answer-small High = omega arith
+answer-small HighZ = omega arith
 
 pulling-back : (p : Bool) → eqb (answerNumber (answerOf p)) 0 ≡ p
 pulling-back true = refl

@@ -1,28 +1,27 @@
 -- One event on an image that is taken: by its fields, without bytes, or as a run of one. Assumes nothing.
 use Prim.Native.Nat.{ℕ}
-use mathlib.Core.Path.{_≡_, refl, sym, ap, ap₂, _∙_}
-use mathlib.Core.Bool.{Bool, true, false}
+use mathlib.Core.Path.{_≡_, refl, sym, ap, _∙_}
+use mathlib.Core.Bool.{true, false}
 use mathlib.Core.List.{List, [], _∷_}
 use lib.Dec.{eqb}
 use lib.ListN.{length, getD}
 use lib.Seq.{sets}
-use Rattle.chip.specs.declared.model.Model.{Model}
 use Rattle.chip.specs.Check.{Sound}
 use Rattle.events.specs.declared.event.Answered.{Answered}
 use Rattle.events.specs.Event.{Outcome}
 use Rattle.runs.specs.declared.run.Ran.{Ran}
 use Rattle.runs.specs.Event.{checkedEvent, eventOf}
-use Rattle.runs.specs.Run.{Run, ranOf, loopOf}
+use Rattle.runs.specs.Run.{ranOf, loopOf}
 use Rattle.runs.proofs.OneLaws.{nothing-read, one}
 use Rattle.image_fields.specs.State.{fieldsOf}
 use Rattle.image.specs.Layout.{spelled, Small}
-use Rattle.image.specs.Taken.{imageOf, stateOf, taken, inRange}
+use Rattle.image.specs.Taken.{imageOf, stateOf, taken, Bytes}
 use Rattle.image.proofs.RangeLaws.{small-fields}
-use Rattle.image.proofs.TakenLaws.{Bytes, encode-decode, taken-passes}
+use Rattle.image.proofs.TakenLaws.{encode-decode, taken-passes}
 use Rattle.image_sample.specs.declared.stepped.Stepped.{Stepped}
 use Rattle.calls.proofs.InRange.{event-range}
 use Rattle.image_run.specs.declared.event.Told.{Told}
-use Rattle.image_run.specs.Sampled.{EventGives, toldBy}
+use Rattle.image_run.specs.Sampled.{ImageGives, toldBy}
 
 -- what an event gives and leaves: what is told, the image, the memory
 abbrev pub Gave : List ℕ → List ℕ → List ℕ → Told → List ℕ → List ℕ → Type 0
@@ -32,7 +31,7 @@ Gave b t m told image memory =
 module _ (b t m : List ℕ) (h : taken b ≡ true) where
   -- ---- on its fields
 
-  module _ (r : Stepped) (g : EventGives b t m r) (d : r .done ≡ true) where
+  module _ (r : Stepped) (g : ImageGives b t m r) (d : r .done ≡ true) where
     pub small-step : Small (r .fields)
     small-step =
         rw (g d .0)

@@ -1,14 +1,13 @@
 -- An expected answer that is the present one is accepted and changes nothing. Assumes nothing.
 use Prim.Native.Nat.{ℕ, _<_, _≤_}
 use mathlib.Core.Path.{_≡_, refl, sym, ap, _∙_}
-use mathlib.Core.Bool.{Bool, true, false}
+use mathlib.Core.Bool.{true, false}
 use mathlib.Core.List.{List}
 use native.Mathlib.Omega.{arith}
 use lib.Dec.{eqb}
 use lib.ListN.{length, getD}
 use borrow.Author.Tests.{eq-eqb, le-ltb}
 use Rattle.parts.specs.declared.answer.Answer.{Answer}
-use Rattle.parts.specs.declared.answer.Answer.the-variants.{Low, High, HighZ}
 use Rattle.parts.specs.Numbers.{answerNumber}
 use Rattle.parts.specs.Table.{partOf}
 use Rattle.trace.specs.declared.event.Event.the-variants.{Expected}
@@ -18,23 +17,17 @@ use Rattle.trace.proofs.SampleLaws.{stays-read}
 use Rattle.selection.specs.Levels.{levelsOf}
 use Rattle.spi.specs.Show.{answerAt}
 use Rattle.i2c.specs.Sample.{answerOf}
-use Rattle.chip.specs.declared.model.Model.{Model}
 use Rattle.chip.specs.Check.{Sound}
 use Rattle.events.specs.Event.{Outcome, keeping, accepted, expected, advanceOf}
-use Rattle.runs.specs.Event.{eventOf}
 use Rattle.runs.proofs.EventLaws.{event-whole}
 use Rattle.image_fields.specs.declared.fields.Fields.{Fields}
 use Rattle.image_fields.specs.State.{answerIn, fieldsOf, stateIn}
+use Rattle.image_fields.proofs.StateLaws.{answer-small}
 use Rattle.image.specs.Layout.{fieldsIn}
 use Rattle.image.specs.Taken.{stateOf}
 use Rattle.image_sample.specs.declared.stepped.Stepped.{Stepped}
 use Rattle.image_sample.specs.Stepped.{steppedBy}
-use Rattle.image_run.specs.Sampled.{EventGives, ExpectedGives}
-
-answer-small : (a : Answer) → answerNumber a < 3
-answer-small Low = omega arith
-answer-small High = omega arith
-answer-small HighZ = omega arith
+use Rattle.image_run.specs.Sampled.{ImageGives, ExpectedGives}
 
 -- what is held: the fields as they are, the value as the answer, no flag
 abbrev heldBy : Fields → ℕ → Stepped
@@ -67,7 +60,7 @@ not-held f v r h m d = let z : _≡_ {A = ℕ} 0 1 = cc in absurd (omega arith)
 
 -- an event of two bytes or more, whose first is 5
 pub expected-told : (b t m : List ℕ) → Sound (stateOf b) m → (f : Fields) (r : Stepped) → f ≡ fieldsIn b → 2 ≤ length t → getD t 0 0 ≡ 5
-    → ((m : List ℕ) → ExpectedGives f m (getD t 1 0) r) → EventGives b t m r
+    → ((m : List ℕ) → ExpectedGives f m (getD t 1 0) r) → ImageGives b t m r
 expected-told b t m sound f r e l k g d =
     let w = rw e at (g m d) in
     let s : staysFirst (sampleLimit (partOf (stateOf b .part) .bus)) (getD t 1 0) t ≡ true = rw (le-ltb (length t) 2 l, k, eq-eqb (getD t 1 0) (getD t 1 0) refl) in

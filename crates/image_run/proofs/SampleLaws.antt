@@ -1,44 +1,34 @@
 -- An event that is a sample in range, on an image of a part under power: what it gives is what the bus rules give. And what an event not
 -- taken on fields comes to. Assumes nothing.
 use Prim.Native.Nat.{ℕ, _<_, _≤_}
-use mathlib.Core.Path.{_≡_, refl, sym, ap, _∙_}
-use mathlib.Core.Bool.{Bool, true, false, not}
+use mathlib.Core.Path.{_≡_}
+use mathlib.Core.Bool.{true, false, not}
 use mathlib.Core.List.{List}
 use native.Mathlib.Omega.{arith}
 use lib.ListN.{length, getD}
 use borrow.Author.Tests.{eq-eqb, lt-ltb, le-ltb, not-true}
 use Rattle.parts.specs.declared.part.Part.{Part}
 use Rattle.parts.specs.declared.part.Bus.{Bus}
-use Rattle.parts.specs.declared.part.Bus.the-variants.{Spi, I2c}
 use Rattle.parts.specs.Table.{isSpi, partOf}
 use Rattle.parts.proofs.Rows.{and-both}
 use Rattle.trace.specs.declared.event.Event.the-variants.{Sample}
 use Rattle.trace.specs.Event.{sampleLimit}
 use Rattle.trace.specs.Sample.{sampleFirst}
 use Rattle.trace.proofs.SampleLaws.{sample-read}
-use Rattle.chip.specs.Check.{Sound, busIn}
+use Rattle.chip.specs.Check.{Sound}
 use Rattle.chip.proofs.CheckLaws.{sound-in}
-use Rattle.events.specs.Event.{Outcome, advanceOf}
+use Rattle.events.specs.Event.{advanceOf}
 use Rattle.runs.specs.Event.{eventOf}
 use Rattle.runs.proofs.EventLaws.{event-whole}
+use Rattle.samples.proofs.NextLaws.{limit-spi, limit-i2c}
 use Rattle.image_fields.specs.declared.fields.Fields.{Fields}
 use Rattle.image_fields.specs.State.{fieldsOf, stateIn}
 use Rattle.image.specs.Layout.{fieldsIn}
 use Rattle.image.specs.Taken.{stateOf, taken}
 use Rattle.image.proofs.TakenLaws.{taken-fields}
 use Rattle.image_sample.specs.declared.stepped.Stepped.{Stepped}
-use Rattle.image_sample.specs.Stepped.{steppedBy, Gives}
-use Rattle.image_run.specs.Sampled.{EventGives}
-
--- ---- the limit of a sample
-
-limit-spi : (b : Bus) → isSpi b ≡ true → sampleLimit b ≡ 32
-limit-spi Spi h = refl
-limit-spi I2c h = let z : _≡_ {A = ℕ} 0 1 = cc in absurd (omega arith)
-
-limit-i2c : (b : Bus) → isSpi b ≡ false → sampleLimit b ≡ 8
-limit-i2c Spi h = let z : _≡_ {A = ℕ} 0 1 = cc in absurd (omega arith)
-limit-i2c I2c h = refl
+use Rattle.image_sample.specs.Stepped.{Gives}
+use Rattle.image_run.specs.Sampled.{ImageGives}
 
 module _ (b t m : List ℕ) (sound : Sound (stateOf b) m) where
   abbrev bus : Bus
@@ -58,19 +48,19 @@ module _ (b t m : List ℕ) (sound : Sound (stateOf b) m) where
       let f : sampleFirst (sampleLimit bus) t ≡ true = rw (le-ltb (length t) 2 l, eq-eqb (getD t 0 0) 4 k, lt-ltb (getD t 1 0) (sampleLimit bus) h) in
       event-whole (stateOf b) m t sound (Sample (getD t 1 0)) 2 (sample-read (partOf (stateOf b .part)) t f)
 
-  gives : (r : Stepped) → eventOf (stateOf b) m t ≡ advanceOf (stateOf b) m (Sample (getD t 1 0)) → Gives (fieldsIn b) m (getD t 1 0) r → EventGives b t m r
+  gives : (r : Stepped) → eventOf (stateOf b) m t ≡ advanceOf (stateOf b) m (Sample (getD t 1 0)) → Gives (fieldsIn b) m (getD t 1 0) r → ImageGives b t m r
   gives r e g = λ d. rw e (g d)
 
   -- with the fields as the code has them
   module _ (f : Fields) (r : Stepped) (e : f ≡ fieldsIn b) where
-    pub spi-told : f .power ≡ 1 → 2 ≤ length t → getD t 0 0 ≡ 4 → getD t 1 0 < 32 → Gives f m (getD t 1 0) r → EventGives b t m r
+    pub spi-told : f .power ≡ 1 → 2 ≤ length t → getD t 0 0 ≡ 4 → getD t 1 0 < 32 → Gives f m (getD t 1 0) r → ImageGives b t m r
     spi-told p l k h g = gives r (sample-event l k (rw (limit-spi bus (spi-bus (rw e at p))) h)) (rw e at g)
 
-    pub i2c-told : f .power ≡ 2 → 2 ≤ length t → getD t 0 0 ≡ 4 → getD t 1 0 < 8 → Gives f m (getD t 1 0) r → EventGives b t m r
+    pub i2c-told : f .power ≡ 2 → 2 ≤ length t → getD t 0 0 ≡ 4 → getD t 1 0 < 8 → Gives f m (getD t 1 0) r → ImageGives b t m r
     i2c-told p l k h g = gives r (sample-event l k (rw (limit-i2c bus (i2c-bus (rw e at p))) h)) (rw e at g)
 
   -- nothing is said of what is not done
-  pub not-done : (r : Stepped) → r .done ≡ false → EventGives b t m r
+  pub not-done : (r : Stepped) → r .done ≡ false → ImageGives b t m r
   not-done r h d = let z : _≡_ {A = ℕ} 0 1 = cc in absurd (omega arith)
 
 -- ---- what a sample on fields asks

@@ -14,8 +14,8 @@ use Rattle.image_sample.specs.declared.stepped.Stepped.{Stepped}
 use Rattle.image_sample.specs.Stepped.{steppedBy}
 use Rattle.image_run.specs.declared.event.Told.{Told}
 
-abbrev pub EventGives : List ℕ → List ℕ → List ℕ → Stepped → Type 0
-EventGives b t m r =
+abbrev pub ImageGives : List ℕ → List ℕ → List ℕ → Stepped → Type 0
+ImageGives b t m r =
     r .done ≡ true → (r ≡ steppedBy (eventOf (stateOf b) m t)) × (eventOf (stateOf b) m t .memory ≡ m) × (eventOf (stateOf b) m t .result .number ≡ 0)
 
 -- the same of an expected answer on fields, which is then one of the three

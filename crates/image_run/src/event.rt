@@ -22,7 +22,7 @@ pub fn event_on(state: &mut [u8], event: &[u8], memory: &mut [u8]) -> Told
     ensures state { λ r. ⌜ now (state .exit) ≡ imageOf (eventOf (stateOf (now (state .entry))) (now (memory .entry)) (now (event .entry)) .result .model) ⌝ }
     ensures memory { λ r. ⌜ now (memory .exit) ≡ eventOf (stateOf (now (state .entry))) (now (memory .entry)) (now (event .entry)) .memory ⌝ }
 {
-    let stepped = crate::sample::sample_on(state, event, memory);
+    let stepped = crate::fields::on_fields(state, event, memory);
     if stepped.done {
         let fields = stepped.fields;
         image::layout::put_fields(state, fields);

@@ -5,8 +5,6 @@ use mathlib.Core.Path.{_≡_, refl, ap}
 use mathlib.Core.Bool.{Bool, true, false}
 use native.Mathlib.Omega.{arith}
 use lib.Dec.{eqb}
-use Rattle.parts.specs.declared.answer.Answer.{Answer}
-use Rattle.parts.specs.declared.answer.Answer.the-variants.{Low, High, HighZ}
 use Rattle.parts.specs.Numbers.{answerNumber}
 use Rattle.parts.specs.Status.{bit, statusByte}
 use Rattle.selection.specs.Levels as SpiLevels
@@ -48,11 +46,6 @@ i2c-same f same on =
       used = rw on at (ap (λ (y : Fields). y .used) same);
       phase = rw on at (ap (λ (y : Fields). y .phase) same);
     }
-
-pub answer-back : (a : Answer) → answerIn (answerNumber a) ≡ a
-answer-back Low = refl
-answer-back High = refl
-answer-back HighZ = refl
 
 -- ---- a sample is that of its levels
 

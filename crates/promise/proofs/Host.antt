@@ -3,7 +3,7 @@
 use Prim.Native.Nat.{ℕ}
 use mathlib.Core.Path.{_≡_, refl, sym, ap, ap₂, _∙_}
 use mathlib.Core.Bool.{Bool, true, false, cond}
-use mathlib.Core.List.{List, [], _∷_, _++_}
+use mathlib.Core.List.{List, [], _∷_}
 use lib.Dec.{eqb}
 use lib.ListN.{length, take, getD}
 use borrow.Author.Tests.{eqb-true}
@@ -15,11 +15,11 @@ use Rattle.calls.specs.Calls.{MakeCall, makeCall, EventCall, eventLeft, eventCa
 use Rattle.calls.proofs.CallLaws.{event-on-image, run-on-image, select-on-image, event-short, run-short, select-short, make-into, make-accepted}
 use Rattle.calls.proofs.InRange.{make-range, event-range}
 use Rattle.promise.specs.Lists.{modelAfter, memoryAfter}
-use Rattle.promise.specs.Promise.{madeBy, cut, cutModel, cutMemory, cutBits, Promise}
+use Rattle.promise.specs.Promise.{madeBy, cut, cutModel, cutMemory, cutBits, freshMade, Promise}
 use Rattle.promise.specs.Ledger.{bitsNumber}
 use Rattle.promise.specs.RunEvents.{split}
 use Rattle.promise.specs.SelectSteps.{select, stepEvents}
-use Rattle.promise.specs.Host.{HostCall, event, run, selection, Held, called, heldAfter, callEvents, eventsCalled, es, held, cutCall, HostPromise, HostHolds}
+use Rattle.promise.specs.Host.{HostCall, event, run, selection, Held, called, heldAfter, callEvents, eventsCalled, es, held, cutCall, HostHolds}
 use Rattle.promise.proofs.Demand3.{demand3}
 use Rattle.promise.proofs.Joins.{model-join, memory-join}
 use Rattle.promise.proofs.RunEvents.{run-events}
@@ -118,6 +118,11 @@ module _ (part pins bits : ℕ) (buffer first : List ℕ) (cs : List HostCall) (
   claim : Promise part pins bits first events
   claim = demand3 part pins bits first events
 
+  -- a making with the ledger's bits, into the same buffer
+  made-again : makeCall (start .part) (start .pins) (bitsNumber (cutBits part pins bits first events)) buffer
+      ≡ record { number = 0; state = imageOf (freshMade part pins bits first events .model) }
+  made-again = make-into _ _ _ buffer (make-accepted part pins bits buffer accepted .1) (claim .makes)
+
   -- the cut, on what the calls left
   module _ (result : List ℕ) (long : length result ≡ 32) where
     cut-is : cutCall part pins bits buffer first cs result ≡ eventLeft (eventOf state memory cut) result
@@ -134,7 +139,7 @@ module _ (part pins bits : ℕ) (buffer first : List ℕ) (cs : List HostCall) (
     cut-fresh =
         cut-state
         ∙ ap imageOf (claim .fresh)
-        ∙ sym (ap (λ (x : MakeCall). x .state) (make-into _ _ _ buffer (make-accepted part pins bits buffer accepted .1) (claim .makes)))
+        ∙ sym (ap (λ (x : MakeCall). x .state) made-again)
 
 pub host-promise : HostHolds
 host-promise part pins bits buffer first cs accepted =
@@ -145,5 +150,6 @@ host-promise part pins bits buffer first cs accepted =
       holds = λ result long a h.
           ap (λ (l : List ℕ). getD l a 0) (cut-memory part pins bits buffer first cs accepted result long)
           ∙ claim part pins bits buffer first cs accepted .holds a h;
+      accepted = ap (λ (x : MakeCall). x .number) (made-again part pins bits buffer first cs accepted);
       fresh = λ result long. cut-fresh part pins bits buffer first cs accepted result long;
     }

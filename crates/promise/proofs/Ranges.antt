@@ -1,6 +1,6 @@
 -- Part, pins, saved bits and bus of a model just made are in range, and stay so over every event, whatever bytes and memory are
 -- given: from the tests at making and from what a whole event has. Assumes nothing.
-use Prim.Native.Nat.{ℕ, _<_}
+use Prim.Native.Nat.{ℕ}
 use mathlib.Core.Path.{_≡_, refl}
 use mathlib.Core.Bool.{Bool, true, false, cond}
 use mathlib.Core.List.{List, [], _∷_}

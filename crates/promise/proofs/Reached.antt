@@ -2,8 +2,7 @@
 -- given for them. From the same fact for each kind of call. Assumes nothing.
 use Prim.Native.Nat.{ℕ}
 use mathlib.Core.Path.{_≡_}
-use mathlib.Core.Bool.{Bool, true, cond}
-use mathlib.Core.List.{List}
+use mathlib.Core.Bool.{true, cond}
 use lib.Dec.{eqb}
 use lib.ListN.{length}
 use Rattle.parts.specs.declared.refusal.Refusal.the-variants.{MemoryLength}

@@ -13,7 +13,7 @@ use Rattle.calls.specs.Calls.{MakeCall, makeCall, EventCall, eventCall, runCall
 use Rattle.ledger.specs.Stores.{lastAt}
 use Rattle.promise.specs.Lists.{modelAfter, memoryAfter}
 use Rattle.promise.specs.Ledger.{bitsNumber, ledgerStores}
-use Rattle.promise.specs.Promise.{madeBy, cut, cutMemory, cutHistory, cutBits, Promise}
+use Rattle.promise.specs.Promise.{madeBy, cut, cutHistory, cutBits, Promise}
 use Rattle.promise.specs.RunEvents.{split}
 use Rattle.promise.specs.SelectSteps.{select, stepEvents}
 
@@ -79,7 +79,8 @@ module _ (part pins bits : ℕ) (buffer first : List ℕ) (cs : List HostCall) w
     -- so after the cut each address holds the last byte that a permitted write put there, or else its byte before the first call
     pub holds : (result : List ℕ) → length result ≡ 32 → (a : ℕ) → a < length first
         → getD (cutCall result .memory) a 0 ≡ lastAt a (getD first a 0) (ledgerStores made (cutHistory part pins bits first es))
-    -- and the buffer is byte for byte what a making with the ledger's bits writes
+    -- a making with the ledger's bits into the buffer is accepted, and the buffer is byte for byte what it writes
+    pub accepted : makeCall (made .part) (made .pins) (bitsNumber (cutBits part pins bits first es)) buffer .number ≡ 0
     pub fresh : (result : List ℕ) → length result ≡ 32
         → cutCall result .state ≡ makeCall (made .part) (made .pins) (bitsNumber (cutBits part pins bits first es)) buffer .state
 

@@ -33,11 +33,11 @@ use Rattle.chip.specs.Check.{Sound}
 use Rattle.chip.proofs.CheckLaws.{sound-in}
 use Rattle.samples.specs.Samples.{staysOn, firstDone}
 
-limit-spi : (b : Bus) → isSpi b ≡ true → sampleLimit b ≡ 32
+pub limit-spi : (b : Bus) → isSpi b ≡ true → sampleLimit b ≡ 32
 limit-spi Spi h = refl
 limit-spi I2c h = let z : _≡_ {A = ℕ} 0 1 = cc in absurd (omega arith)
 
-limit-i2c : (b : Bus) → isSpi b ≡ false → sampleLimit b ≡ 8
+pub limit-i2c : (b : Bus) → isSpi b ≡ false → sampleLimit b ≡ 8
 limit-i2c I2c h = refl
 limit-i2c Spi h = let z : _≡_ {A = ℕ} 0 1 = cc in absurd (omega arith)
 

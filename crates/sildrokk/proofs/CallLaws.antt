@@ -3,7 +3,6 @@ use Prim.Native.Nat.{ℕ}
 use mathlib.Core.Path.{_≡_, refl, sym, ap, _∙_}
 use mathlib.Core.Bool.{Bool, true, false, cond}
 use mathlib.Core.List.{List, []}
-use lib.Dec.{eqb}
 use lib.ListN.{length}
 use lib.Seq.{sets}
 use Rattle.chip.specs.Check.{Sound}
@@ -14,8 +13,8 @@ use Rattle.selects.specs.Selected.{selectedOf}
 use Rattle.runs.specs.declared.run.Ran.{Ran}
 use Rattle.runs.specs.Event.{eventOf}
 use Rattle.runs.specs.Run.{ranOf, loopOf, runOf}
-use Rattle.image.specs.Taken.{imageOf, stateOf, inRange, taken}
-use Rattle.image.proofs.TakenLaws.{Bytes, taken-passes}
+use Rattle.image.specs.Taken.{imageOf, stateOf, inRange, taken, Bytes}
+use Rattle.image.proofs.TakenLaws.{taken-passes}
 use Rattle.calls.specs.Result.{eventResult, runResult, selectResult}
 use Rattle.calls.specs.Calls.{opens, eventLeft, eventCall, stateNumber, RunCall, runLeft, runCall, selectLeft, selectCall, openNumber}
 use Rattle.calls.proofs.InRange.{select-range}

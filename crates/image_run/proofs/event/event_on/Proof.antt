@@ -10,13 +10,13 @@ put-fields-requires : tie.Need-put-fields-requires
 put-fields-requires c κs =
     let start = c .before .before .before .before .before .before .before .before .before in
     let a = start .args in
-    (taken-long _ (start .pre .0), small-step (a .state .now) (a .event .now) (a .memory .now) (start .pre .0) _ (c .before .before .before .sample-on .ensures) (c .before .before .if1 .taken))
+    (taken-long _ (start .pre .0), small-step (a .state .now) (a .event .now) (a .memory .now) (start .pre .0) _ (c .before .before .before .on-fields .ensures) (c .before .before .if1 .taken))
 
 returns : tie.Need-returns
 returns c =
     let start = c .before .before .before .before .before .before .before .before .before .before .before .before in
     let a = start .args in
-    let k = step-gave (a .state .now) (a .event .now) (a .memory .now) (start .pre .0) _ (c .before .before .before .before .before .before .sample-on .ensures) (c .before .before .before .before .before .if1 .taken) in
+    let k = step-gave (a .state .now) (a .event .now) (a .memory .now) (start .pre .0) _ (c .before .before .before .before .before .before .on-fields .ensures) (c .before .before .before .before .before .if1 .taken) in
     (k .0, (rw (c .before .before .put-fields .ensures) (k .1), k .2))
 
 returns-2 : tie.Need-returns-2

@@ -1,11 +1,11 @@
--- `sample_on` meets its contract: a sample in range and an expected answer are what the fields give, and of anything else nothing is said.
+-- `on_fields` meets its contract: a sample in range and an expected answer are what the fields give, and of anything else nothing is said.
 -- Assumes nothing.
 use borrow.Author.Needs.{needs}
 use Rattle.image.proofs.TakenLaws.{taken-long, taken-fields, known-part}
 use Rattle.image_run.proofs.ExpectedLaws.{expected-told}
 use Rattle.image_run.proofs.SampleLaws.{spi-ready, spi-told, i2c-ready, i2c-told, not-done}
-use Rattle.image_run.proofs.sample.sample_on.Statement.{statement}
-use Rattle.image_run.proofs.sample.sample_on.Tie as tie
+use Rattle.image_run.proofs.fields.on_fields.Statement.{statement}
+use Rattle.image_run.proofs.fields.on_fields.Tie as tie
 
 fields-in-requires : tie.Need-fields-in-requires
 fields-in-requires c κs = taken-long _ (c .before .before .before .pre .0)
@@ -60,8 +60,8 @@ returns-6 c =
     let start = c .before .before .before .before .before .before .before .before .before .before .before .before .before .before .before in
     not-done (start .args .state .now) (start .args .event .now) (start .args .memory .now) (start .pre .1) _ (c .undone3 .ensures)
 
-pub sample-on-spec : {M : Type 1} → statement M
-sample-on-spec =
+pub on-fields-spec : {M : Type 1} → statement M
+on-fields-spec =
     tie.close
     (tie.spec
     fields-in-requires

@@ -3,12 +3,12 @@ ghost use mathlib.Core.Path.{_≡_};
 ghost use mathlib.Core.Bool.{true};
 ghost use Rattle.chip.specs.Check.{Sound};
 ghost use Rattle.image.specs.Taken.{stateOf, taken};
-ghost use Rattle.image_run.specs.Sampled.{EventGives};
+ghost use Rattle.image_run.specs.Sampled.{ImageGives};
 use image_sample::stepped::Stepped;
 
-pub fn sample_on(state: &[u8], event: &[u8], memory: &[u8]) -> Stepped
+pub fn on_fields(state: &[u8], event: &[u8], memory: &[u8]) -> Stepped
     requires { ⌜ (taken (now state) ≡ true) × Sound (stateOf (now state)) (now memory) ⌝ }
-    ensures { λ r. ⌜ EventGives (now (state .entry)) (now (event .entry)) (now (memory .entry)) r ⌝ }
+    ensures { λ r. ⌜ ImageGives (now (state .entry)) (now (event .entry)) (now (memory .entry)) r ⌝ }
 {
     let fields = image::layout::fields_in(state);
     if event.len() < 2 {
