@@ -73,7 +73,10 @@ int main(void)
     printf("READ shows   000h: %02Xh, 001h: %02Xh\n", output[3], output[4]);
     event(power_off, sizeof power_off, "the power off");
     printf("memory holds 000h: %02Xh, 001h: %02Xh\n", memory[0], memory[1]);
-    if (before_first && !before_second)
-        puts("The first WRITE was stored. The write enable latch fell when it ended, so the second was dropped and 001h kept its byte.");
+    if (!before_first || before_second) {
+        puts("The write enable latch is not what it should be.");
+        return EXIT_FAILURE;
+    }
+    puts("The first WRITE was stored. The write enable latch fell when it ended, so the second was dropped and 001h kept its byte.");
     return EXIT_SUCCESS;
 }

@@ -41,7 +41,7 @@
  *       image of a state in its ranges (docs/IMAGE.md)
  *   3   memory_length is more or less than the part has
  *   4   no such kind, or the power on of the other bus; of a selection, that the part is on I2C
- *   5   the event's bytes are not all there
+ *   5   the event's bytes are not all there, or there are none
  *   6   a sample too large: 32 or more on SPI, 8 or more on I2C
  *   10  a start address not below the part's size
  *   11  an expected answer above 2
