@@ -75,13 +75,13 @@ fn head_word(fields: Fields) -> u64
     ensures { λ r. ⌜ bytesOf 8 r ≡ headBytes fields ⌝ }
 {
     let phase = fields.phase;
-    72057594037927936 * fields.part as u64
-        + 281474976710656 * fields.pins as u64
-        + 1099511627776 * fields.status as u64
-        + 4294967296 * fields.power as u64
-        + 16777216 * fields.last as u64
-        + 65536 * fields.driven as u64
-        + 256 * fields.asleep as u64
+    0x100000000000000 * fields.part as u64
+        + 0x1000000000000 * fields.pins as u64
+        + 0x10000000000 * fields.status as u64
+        + 0x100000000 * fields.power as u64
+        + 0x1000000 * fields.last as u64
+        + 0x10000 * fields.driven as u64
+        + 0x100 * fields.asleep as u64
         + phase.tag as u64
 }
 
@@ -90,9 +90,9 @@ fn phase_word(phase: PhaseFields) -> u64
     requires { ⌜ SmallPhase phase ⌝ }
     ensures { λ r. ⌜ bytesOf 8 r ≡ phaseBytes phase ⌝ }
 {
-    72057594037927936 * phase.count as u64
-        + 4294967296 * phase.value as u64
-        + 256 * phase.address as u64
+    0x100000000000000 * phase.count as u64
+        + 0x100000000 * phase.value as u64
+        + 0x100 * phase.address as u64
         + phase.detail as u64
 }
 
@@ -101,7 +101,7 @@ fn buffer_word(fields: Fields) -> u64
     requires { ⌜ Small fields ⌝ }
     ensures { λ r. ⌜ bytesOf 8 r ≡ bufferBytes fields ⌝ }
 {
-    1099511627776 * fields.buffer as u64 + 4294967296 * fields.used as u64
+    0x10000000000 * fields.buffer as u64 + 0x100000000 * fields.used as u64
 }
 
 // Four numbers of eight bytes, which are all 32 bytes.

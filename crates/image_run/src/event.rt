@@ -14,8 +14,9 @@ pub struct Told {
     pub flag: bool,
 }
 
-// A sample that completes no field or byte is taken on the fields of the image, anything else as a run of one, which leaves the answer at 2
-// if it is refused; the first flag is at 0 if the event is flagged. Without bytes a run is empty, and an event is cut short.
+// A sample that completes no field or byte and an expected answer that holds are taken on the fields of the image, anything else as a run
+// of one, which leaves the answer at 2 if it is refused; the first flag is at 0 if the event is flagged. Without bytes a run is empty, and
+// an event is cut short.
 pub fn event_on(state: &mut [u8], event: &[u8], memory: &mut [u8]) -> Told
     requires { ⌜ (taken (now state) ≡ true) × Sound (stateOf (now state)) (now memory) ⌝ }
     ensures told { λ r. ⌜ r ≡ toldBy (eventOf (stateOf (now (state .entry))) (now (memory .entry)) (now (event .entry))) ⌝ }

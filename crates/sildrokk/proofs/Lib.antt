@@ -1,3 +1,2 @@
-pub mod ResultLaws
-pub mod OpenLaws
+pub mod MakeLaws
 pub mod CallLaws

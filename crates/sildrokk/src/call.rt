@@ -1,4 +1,4 @@
-// The exported calls. Part, pins, saved bits and WP# have 32 bits, so that a host's 256 is refused and not cut to 0.
+// The exported calls. Part, pins, saved bits and WP# have 32 bits, so that a host's 256 is not cut to 0: it is refused, or is a high WP#.
 ghost use mathlib.Core.Path.{_≡_};
 ghost use mathlib.Core.Bool.{not};
 ghost use mathlib.Core.List.{[]};
@@ -37,13 +37,13 @@ pub extern "C" fn sildrokk_event(
     ensures memory { λ r. ⌜ now (memory .exit) ≡ eventCall (now (state .entry)) (now (event .entry)) (now (memory .entry)) (now (result .entry)) .memory ⌝ }
     ensures result { λ r. ⌜ now (result .exit) ≡ eventCall (now (state .entry)) (now (event .entry)) (now (memory .entry)) (now (result .entry)) .result ⌝ }
 {
-    let number = crate::open::number(state, result.len(), memory.len());
+    let number = call_ends::open::number(state, result.len(), memory.len());
     if number != 0 {
-        crate::result::write_event(result, 2, false);
+        call_ends::result::write_event(result, 2, false);
         return number;
     }
     let told = image_run::event::event_on(state, event, memory);
-    crate::result::write_event(result, told.answer, told.flag);
+    call_ends::result::write_event(result, told.answer, told.flag);
     told.number
 }
 
@@ -64,13 +64,13 @@ pub extern "C" fn sildrokk_replay(
     ensures answers { λ r. ⌜ now (answers .exit) ≡ runCall (now (state .entry)) (now (trace .entry)) quota (now (memory .entry)) (now (answers .entry)) (now (result .entry)) .answers ⌝ }
     ensures result { λ r. ⌜ now (result .exit) ≡ runCall (now (state .entry)) (now (trace .entry)) quota (now (memory .entry)) (now (answers .entry)) (now (result .entry)) .result ⌝ }
 {
-    let number = crate::open::number(state, result.len(), memory.len());
+    let number = call_ends::open::number(state, result.len(), memory.len());
     if number != 0 {
-        crate::result::write_run(result, 0, 0, trace.len() as u64);
+        call_ends::result::write_run(result, 0, 0, trace.len() as u64);
         return number;
     }
     let ran = image_run::run::run_on(state, trace, quota as usize, memory, answers);
-    crate::result::write_run(result, ran.count as u64, ran.offset as u64, ran.flag as u64);
+    call_ends::result::write_run(result, ran.count as u64, ran.offset as u64, ran.flag as u64);
     ran.number
 }
 
@@ -109,15 +109,15 @@ pub extern "C" fn sildrokk_select(
     ensures memory { λ r. ⌜ now (memory .exit) ≡ selectCall (now (state .entry)) (not (eqb wp 0)) (now (input .entry)) (now (output .entry)) (now (memory .entry)) (now (result .entry)) .memory ⌝ }
     ensures result { λ r. ⌜ now (result .exit) ≡ selectCall (now (state .entry)) (not (eqb wp 0)) (now (input .entry)) (now (output .entry)) (now (memory .entry)) (now (result .entry)) .result ⌝ }
 {
-    let number = crate::open::number(state, result.len(), memory.len());
+    let number = call_ends::open::number(state, result.len(), memory.len());
     if number != 0 {
-        crate::result::write_select(result, 0, 0);
+        call_ends::result::write_select(result, 0, 0);
         return number;
     }
     let model = image::taken::state_of(state);
     let selected = selects::select::select_on_part(model, wp != 0, input, output, memory);
     let next = selected.model;
     image::taken::put_image(state, next);
-    crate::result::write_select(result, selected.first as u64, selected.count as u64);
+    call_ends::result::write_select(result, selected.first as u64, selected.count as u64);
     selected.number
 }

@@ -1,7 +1,7 @@
 -- `sildrokk_make` meets its contract: refused by its numbers, then by the buffer's length, or written. Assumes nothing.
 use borrow.Author.Needs.{needs}
 use Rattle.calls.proofs.InRange.{make-range}
-use Rattle.sildrokk.proofs.OpenLaws.{making-refused, making-short, making-done}
+use Rattle.sildrokk.proofs.MakeLaws.{making-refused, making-short, making-done}
 use Rattle.sildrokk.proofs.call.sildrokk_make.Statement.{statement}
 use Rattle.sildrokk.proofs.call.sildrokk_make.Tie as tie
 

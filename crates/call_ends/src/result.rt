@@ -18,8 +18,8 @@ fn write(result: &mut [u8], first: u64, second: u64, third: u64)
 pub fn write_event(result: &mut [u8], answer: u8, flag: bool)
     ensures { λ r. ⌜ now (result .exit) ≡ eventResult answer flag (now (result .entry)) ⌝ }
 {
-    let bytes = 72057594037927936 * answer as u64
-        + 281474976710656 * parts::status::bit_of(flag) as u64;
+    let bytes = 0x100000000000000 * answer as u64
+        + 0x1000000000000 * parts::status::bit_of(flag) as u64;
     write(result, bytes, 0, 0);
 }
 

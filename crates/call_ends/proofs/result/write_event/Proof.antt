@@ -1,9 +1,9 @@
 -- `write_event` meets its contract: answer and flag are the first two bytes of a number. Assumes nothing.
 use native.Mathlib.Omega.{arith}
 use borrow.Author.Needs.{needs}
-use Rattle.sildrokk.proofs.ResultLaws.{event-written}
-use Rattle.sildrokk.proofs.result.write_event.Statement.{statement}
-use Rattle.sildrokk.proofs.result.write_event.Tie as tie
+use Rattle.call_ends.proofs.ResultLaws.{event-written}
+use Rattle.call_ends.proofs.result.write_event.Statement.{statement}
+use Rattle.call_ends.proofs.result.write_event.Tie as tie
 
 returns : tie.Need-returns
 returns c =

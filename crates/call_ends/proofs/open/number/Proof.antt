@@ -4,9 +4,9 @@ use native.Mathlib.Omega.{arith}
 use borrow.Author.Needs.{needs}
 use borrow.Author.Tests.{not-true, not-false}
 use Rattle.image.proofs.TakenLaws.{taken-long, known-part}
-use Rattle.sildrokk.proofs.OpenLaws.{short-result, not-an-image, sized, other-size}
-use Rattle.sildrokk.proofs.open.number.Statement.{statement}
-use Rattle.sildrokk.proofs.open.number.Tie as tie
+use Rattle.call_ends.proofs.OpenLaws.{short-result, not-an-image, sized, other-size}
+use Rattle.call_ends.proofs.open.number.Statement.{statement}
+use Rattle.call_ends.proofs.open.number.Tie as tie
 
 returns : tie.Need-returns
 returns c = rw (c .number .ensures) (short-result _ _ _ (c .before .if1 .taken))

@@ -1,8 +1,8 @@
 -- `write` meets its contract, by the length of the buffer. Assumes nothing.
 use borrow.Author.Tests.{eq-eqb, ne-eqb}
 use borrow.Author.Needs.{needs}
-use Rattle.sildrokk.proofs.result.write.Statement.{statement}
-use Rattle.sildrokk.proofs.result.write.Tie as tie
+use Rattle.call_ends.proofs.result.write.Statement.{statement}
+use Rattle.call_ends.proofs.result.write.Tie as tie
 
 returns : tie.Need-returns
 returns c = rw (c .before .before .put-numbers .ensures, eq-eqb _ _ (c .before .before .before .before .if1 .taken))
