@@ -9,7 +9,6 @@ use lib.Dec.{eqb}
 use lib.ListN.{length}
 use native.Mathlib.Omega.{arith}
 use borrow.Author.Tests.{eq-eqb, eqb-true, eqb-false}
-use Rattle.parts.proofs.Rows.{and-both}
 use Rattle.chip.specs.declared.model.Model.{Model}
 use Rattle.byte_path.specs.Select.{selectOf}
 use Rattle.runs.specs.Event.{eventOf}
@@ -17,10 +16,10 @@ use Rattle.runs.specs.Run.{runOf}
 use Rattle.model.specs.declared.make.Made.{Made}
 use Rattle.model.specs.Make.{makeOf}
 use Rattle.image.specs.Taken.{imageOf, stateOf, inRange, taken}
-use Rattle.image.proofs.TakenLaws.{decode-encode, image-taken, taken-passes}
-use Rattle.calls.specs.Result.{eventResult, runResult, selectResult}
+use Rattle.image.proofs.TakenLaws.{decode-encode, image-taken}
 use Rattle.calls.specs.Calls.{opens, stateNumber, MakeCall, makeCall, eventLeft, eventCall, runLeft, runCall, selectLeft, selectCall}
 use Rattle.calls.proofs.InRange.{event-range, run-range, select-range}
+use Rattle.calls.proofs.Opening.{opened-passes}
 
 -- ---- on the image of a state that passes 1 and 2, with a result of 32 bytes
 
@@ -50,23 +49,39 @@ pub make-into : (part pins bits : ℕ) (b : List ℕ) → length b ≡ 32 → ma
 unfolding makeCall
 make-into part pins bits b h k = rw (eq-eqb (length b) 32 h, eq-eqb (makeOf part pins bits .number) 0 k)
 
+-- by whether it has the number 0 and the buffer 32 bytes
+abbrev judged : List ℕ → Made → Bool → Bool → MakeCall
+judged b made y z =
+    cond y (cond z (record { number = 0; state = imageOf (made .model) }) (record { number = stateNumber; state = b }))
+    (record { number = made .number; state = b })
+
 -- a refused making leaves the buffer
 pub make-refused : (part pins bits : ℕ) (b : List ℕ) → (makeCall part pins bits b .number ≡ 0 → ⊥) → makeCall part pins bits b .state ≡ b
 unfolding makeCall
-make-refused part pins bits b = by (makeOf part pins bits) (eqb (makeOf part pins bits .number) 0) (eqb (length b) 32) refl
+make-refused part pins bits b = by (makeOf part pins bits) (eqb (makeOf part pins bits .number) 0) (eqb (length b) 32)
   where
-    by : (made : Made) (y z : Bool) → eqb (made .number) 0 ≡ y
-        → (cond {A = MakeCall} y (cond z (record { number = 0; state = imageOf (made .model) }) (record { number = stateNumber; state = b })) (record { number = made .number; state = b }) .number ≡ 0 → ⊥)
-        → cond {A = MakeCall} y (cond z (record { number = 0; state = imageOf (made .model) }) (record { number = stateNumber; state = b })) (record { number = made .number; state = b }) .state ≡ b
-    by made true true e k = absurd (k refl)
-    by made true false e k = refl
-    by made false z e k = refl
+    by : (made : Made) (y z : Bool) → (judged b made y z .number ≡ 0 → ⊥) → judged b made y z .state ≡ b
+    by made true true k = absurd (k refl)
+    by made true false k = refl
+    by made false z k = refl
+
+-- an accepted one wrote into 32 bytes
+pub make-accepted : (part pins bits : ℕ) (b : List ℕ) → makeCall part pins bits b .number ≡ 0
+    → (makeCall part pins bits b .state ≡ imageOf (makeOf part pins bits .model)) × (length b ≡ 32)
+unfolding makeCall
+make-accepted part pins bits b = by (makeOf part pins bits) (eqb (makeOf part pins bits .number) 0) (eqb (length b) 32) refl refl
+  where
+    by : (made : Made) (y z : Bool) → eqb (made .number) 0 ≡ y → eqb (length b) 32 ≡ z → judged b made y z .number ≡ 0
+        → (judged b made y z .state ≡ imageOf (made .model)) × (length b ≡ 32)
+    by made true true e k h = (refl, eqb-true (length b) 32 k)
+    by made true false e k h = absurd (omega arith)
+    by made false z e k h = absurd (eqb-false (made .number) 0 e h)
 
 -- ---- what is left is an image again
 
 module _ (b result : List ℕ) (h : opens b result ≡ true) where
   passes : inRange (stateOf b) ≡ true
-  passes = taken-passes b (and-both (eqb (length result) 32) _ h .1)
+  passes = opened-passes b result h
 
   pub event-leaves-image : (t m : List ℕ) → taken (eventCall b t m result .state) ≡ true
   unfolding eventCall
@@ -80,37 +95,3 @@ module _ (b result : List ℕ) (h : opens b result ≡ true) where
   unfolding selectCall
   select-leaves-image wp input output m =
       rw h (image-taken (selectOf wp (stateOf b) input output m .model) (select-range wp (stateOf b) input output m passes))
-
--- ---- a result of another length: nothing is done, whatever the state is
-
-module _ (b m result : List ℕ) (short : eqb (length result) 32 ≡ false) where
-  closed : opens b result ≡ false
-  closed = rw short
-
-  pub event-short : (t : List ℕ) → eventCall b t m result ≡ record { number = stateNumber; state = b; memory = m; result = eventResult 2 false result }
-  unfolding eventCall
-  event-short t = rw closed
-
-  pub run-short : (t : List ℕ) (quota : ℕ) (answers : List ℕ)
-      → runCall b t quota m answers result ≡ record { number = stateNumber; state = b; memory = m; answers = answers; result = runResult 0 0 (length t) result }
-  unfolding runCall
-  run-short t quota answers = rw closed
-
-  pub select-short : (wp : Bool) (input output : List ℕ)
-      → selectCall b wp input output m result ≡ record { number = stateNumber; state = b; memory = m; output = output; result = selectResult 0 0 result }
-  unfolding selectCall
-  select-short wp input output = rw closed
-
--- an accepted making wrote into 32 bytes
-pub make-accepted : (part pins bits : ℕ) (b : List ℕ) → makeCall part pins bits b .number ≡ 0
-    → (makeCall part pins bits b .state ≡ imageOf (makeOf part pins bits .model)) × (length b ≡ 32)
-unfolding makeCall
-make-accepted part pins bits b = by (makeOf part pins bits) (eqb (makeOf part pins bits .number) 0) (eqb (length b) 32) refl refl
-  where
-    by : (made : Made) (y z : Bool) → eqb (made .number) 0 ≡ y → eqb (length b) 32 ≡ z
-        → cond {A = MakeCall} y (cond z (record { number = 0; state = imageOf (made .model) }) (record { number = stateNumber; state = b })) (record { number = made .number; state = b }) .number ≡ 0
-        → (cond {A = MakeCall} y (cond z (record { number = 0; state = imageOf (made .model) }) (record { number = stateNumber; state = b })) (record { number = made .number; state = b }) .state ≡ imageOf (made .model))
-        × (length b ≡ 32)
-    by made true true e k h = (refl, eqb-true (length b) 32 k)
-    by made true false e k h = absurd (omega arith)
-    by made false z e k h = absurd (eqb-false (made .number) 0 e h)

@@ -5,26 +5,22 @@ use mathlib.Core.Path.{_≡_, refl}
 use mathlib.Core.Bool.{Bool, true, false, cond}
 use mathlib.Core.List.{List, [], _∷_}
 use native.Mathlib.Omega.{arith}
-use lib.Dec.{ltb, eqb}
+use lib.Dec.{ltb}
 use lib.ListN.{length}
 use borrow.Author.Tests.{ltb-true}
-use Rattle.parts.specs.declared.refusal.Refusal.{Refusal}
-use Rattle.parts.specs.declared.refusal.Refusal.the-variants.{UnknownKind, NotDeselected, BufferLength}
 use Rattle.parts.specs.Status.{cleared}
-use Rattle.parts.specs.Table.{isSpi, partOf}
+use Rattle.parts.specs.Table.{partOf}
 use Rattle.parts.proofs.Rows.{and-both}
 use Rattle.trace.specs.declared.event.Event.the-variants.{Sample}
 use Rattle.chip.specs.declared.check.Verdict.{Verdict}
 use Rattle.chip.specs.declared.check.Verdict.the-variants.{Passed, Failed}
-use Rattle.chip.specs.declared.model.BusState.{BusState}
-use Rattle.chip.specs.declared.model.BusState.the-variants.{Unpowered, SpiOn, I2cOn}
 use Rattle.chip.specs.declared.model.Model.{Model}
 use Rattle.chip.specs.Check.{bitsClear, checkOf, Sound}
 use Rattle.chip.specs.Model.{unpowered}
 use Rattle.chip.proofs.CheckLaws.{model-test, sound-in}
 use Rattle.events.proofs.Keeps.{keeps}
 use Rattle.byte_path.specs.PinPath.{Pins, sampled, clockedAll, bitsOf, bytesTaken, sampleOf, lastSi, fallen, risen, selectionOf}
-use Rattle.byte_path.specs.Select.{Select, refusedSelect, takenSelect, sizedSelect, busSelect, verdictSelect, selectOf}
+use Rattle.byte_path.specs.Select.{Select, selectOf}
 use Rattle.runs.specs.Event.{eventOnVerdict, eventOf}
 use Rattle.runs.specs.Run.{loopOf, runOnVerdict, runOf}
 use Rattle.runs.proofs.EventLaws.{event-sound}
@@ -32,6 +28,7 @@ use Rattle.runs.proofs.RunRule.{loop-sound}
 use Rattle.model.specs.declared.make.Made.{Made}
 use Rattle.model.specs.Make.{statusOf, makeIn, makeOf}
 use Rattle.image.specs.Taken.{inRange}
+use Rattle.calls.proofs.SelectCases.{select-by}
 
 pub sound-range : (s : Model) (m : List ℕ) → Sound s m → inRange s ≡ true
 sound-range s m h = let r = sound-in s m h in rw (model-test s (r .model), r .bus)
@@ -100,30 +97,8 @@ module _ (wp : Bool) where
         sampled-passes (bytesTaken wp (fallen wp s m input) input) (sampleOf true false (lastSi false input) wp)
         (bytes-passes input (fallen wp s m input) (sampled-passes (record { model = s; memory = m; answer = 2 }) (sampleOf false false false wp) h))
 
-    module _ (h : inRange s ≡ true) where
-      abbrev In : Select → Type 0
-      In x = inRange (x .model) ≡ true
-
-      in-test : (t : Bool) (x : Select) (r : Refusal) → In x → In (cond t x (refusedSelect wp s input output m r))
-      in-test true x r k = k
-      in-test false x r k = h
-
-      taken-in : Sound s m → In (takenSelect wp s input output m (selectionOf wp s m input))
-      unfolding selectionOf
-      taken-in c = sound-range (risen wp s m input .model) (risen wp s m input .memory) (selection-passes c)
-
-      sized-in : Sound s m → In (sizedSelect wp s input output m)
-      sized-in c = in-test (eqb (length output) (length input)) (takenSelect wp s input output m (selectionOf wp s m input)) BufferLength (taken-in c)
-
-      bus-in : Sound s m → (b : BusState) → In (busSelect wp s input output m b)
-      bus-in c Unpowered = h
-      bus-in c (SpiOn x) = in-test (x .last .cs) (sizedSelect wp s input output m) NotDeselected (sized-in c)
-      bus-in c (I2cOn x) = h
-
-      pub select-range : inRange (selectOf wp s input output m .model) ≡ true
-      unfolding selectOf
-      select-range = by (checkOf s (length m)) refl
-        where
-          by : (v : Verdict) → checkOf s (length m) ≡ v → In (verdictSelect wp s input output m v)
-          by Passed c = in-test (isSpi (partOf (s .part) .bus)) (busSelect wp s input output m (s .bus)) UnknownKind (bus-in c (s .bus))
-          by (Failed r) c = h
+    pub select-range : inRange s ≡ true → inRange (selectOf wp s input output m .model) ≡ true
+    unfolding selectionOf
+    select-range h =
+        select-by wp s input output m (λ (x : Select). inRange (x .model) ≡ true) (λ r e. h) h h h
+        (λ c. sound-range (risen wp s m input .model) (risen wp s m input .memory) (selection-passes c))

@@ -27,6 +27,25 @@ check-by s n z h e =
     let k = and-both (modelIn s) _ h in
     rw (k .0, k .1, e)
 
+-- ---- state and result are what a call takes
+
+module _ (b result : List ℕ) where
+  pub short-closed : eqb (length result) 32 ≡ false → opens b result ≡ false
+  short-closed h = rw h
+
+  module _ (h : opens b result ≡ true) where
+    pub opened-taken : taken b ≡ true
+    opened-taken = and-both (eqb (length result) 32) _ h .1
+
+    pub opened-passes : inRange (stateOf b) ≡ true
+    opened-passes = taken-passes b opened-taken
+
+    -- the image of the state that it reads as is the buffer
+    pub opened-same : Bytes b → imageOf (stateOf b) ≡ b
+    opened-same bytes = encode-decode b bytes opened-taken
+
+-- ---- the number that a call begins with
+
 module _ (b result m : List ℕ) where
   abbrev number : ℕ
   number = openNumber b (length result) (length m)
@@ -45,23 +64,20 @@ module _ (b result m : List ℕ) where
   opened = by (opens b result) (eqb (length m) size) refl refl
     where
       by : (y z : Bool) → opens b result ≡ y → eqb (length m) size ≡ z → cond {A = ℕ} y (cond z 0 3) 2 ≡ 0 → Opened
-      by true true e k h = record { takes = e; passes = check-by (stateOf b) (length m) true (taken-passes b (and-both (eqb (length result) 32) _ e .1)) k }
+      by true true e k h = record { takes = e; passes = check-by (stateOf b) (length m) true (opened-passes b result e) k }
       by true false e k h = absurd (omega arith)
       by false true e k h = absurd (omega arith)
       by false false e k h = absurd (omega arith)
-
-  pub opened-taken : opens b result ≡ true → taken b ≡ true
-  opened-taken h = and-both (eqb (length result) 32) _ h .1
 
   -- ---- with 2 or 3
 
   -- the buffers are right, and the memory's length is not
   module _ (bytes : Bytes b) (e : opens b result ≡ true) (k : eqb (length m) size ≡ false) where
     same : imageOf (stateOf b) ≡ b
-    same = encode-decode b bytes (opened-taken e)
+    same = opened-same b result e bytes
 
     failed : checkOf (stateOf b) (length m) ≡ Failed MemoryLength
-    failed = check-by (stateOf b) (length m) false (taken-passes b (opened-taken e)) k
+    failed = check-by (stateOf b) (length m) false (opened-passes b result e) k
 
     event-three : (t : List ℕ) → eventCall b t m result ≡ eventKept b m result
     unfolding eventCall eventOf openNumber
@@ -75,15 +91,15 @@ module _ (b result m : List ℕ) where
     unfolding selectCall selectOf openNumber
     select-three wp input output = rw (e, failed, k, same)
 
-  event-two : opens b result ≡ false → (t : List ℕ) → eventCall b t m result ≡ eventKept b m result
+  pub event-two : opens b result ≡ false → (t : List ℕ) → eventCall b t m result ≡ eventKept b m result
   unfolding eventCall openNumber
   event-two e t = rw e
 
-  run-two : opens b result ≡ false → (t : List ℕ) (quota : ℕ) (answers : List ℕ) → runCall b t quota m answers result ≡ runKept b m result t answers
+  pub run-two : opens b result ≡ false → (t : List ℕ) (quota : ℕ) (answers : List ℕ) → runCall b t quota m answers result ≡ runKept b m result t answers
   unfolding runCall openNumber
   run-two e t quota answers = rw e
 
-  select-two : opens b result ≡ false → (wp : Bool) (input output : List ℕ) → selectCall b wp input output m result ≡ selectKept b m result output
+  pub select-two : opens b result ≡ false → (wp : Bool) (input output : List ℕ) → selectCall b wp input output m result ≡ selectKept b m result output
   unfolding selectCall openNumber
   select-two e wp input output = rw e
 

@@ -1,6 +1,7 @@
 -- The calls on images: what each gives back and leaves in the buffers that it was lent. A state or result that is not 32 bytes long, or a
 -- state that is no image, is 2; else the call is that on the state of the image, and the image of the next state is left.
 use Prim.Native.Nat.{ℕ}
+use mathlib.Core.Path.{_≡_}
 use mathlib.Core.Bool.{Bool, false, cond, _&&_}
 use mathlib.Core.List.{List}
 use lib.Dec.{eqb}
@@ -25,6 +26,10 @@ stateNumber = refusalNumber StateRange
 -- state and result are what a call takes
 abbrev pub opens : List ℕ → List ℕ → Bool
 opens b result = eqb (length result) 32 && taken b
+
+-- of the number of a call on them: it is never 1, and 2 exactly if they are not
+abbrev pub Numbered : List ℕ → List ℕ → ℕ → Type 0
+Numbered b result n = (n ≡ 1 → ⊥) × (n ≡ 2 → opens b result ≡ false) × (opens b result ≡ false → n ≡ 2)
 
 -- ---- making: 1 by its numbers, then 2 by the buffer's length
 

@@ -8,7 +8,7 @@ use mathlib.Core.List.{List, [], _∷_, _++_, append-nil}
 use lib.Dec.{eqb}
 use lib.ListN.{length}
 use Rattle.parts.specs.declared.part.Part.{Part}
-use Rattle.parts.specs.Table.{isSpi, partOf}
+use Rattle.parts.specs.Table.{partOf}
 use Rattle.parts.proofs.Rows.{part-fits}
 use Rattle.serial.specs.declared.write.Write.{Write}
 use Rattle.serial.specs.declared.write.Write.the-variants.{Nothing, Byte}
@@ -16,20 +16,19 @@ use Rattle.trace.specs.declared.read.Read.{Read}
 use Rattle.trace.specs.declared.read.Read.the-variants.{Whole, Refused}
 use Rattle.trace.specs.Read.{readOf}
 use Rattle.selection.specs.declared.opcode.Command.the-variants.{WREN, WRDI, RDSR, WRSR, READ, WRITE, FSTRD, RDID, SLEEP, Unknown}
-use Rattle.chip.specs.declared.model.BusState.the-variants.{Unpowered}
 use Rattle.chip.specs.declared.model.Model.{Model}
 use Rattle.chip.proofs.CheckLaws.{model-in}
 use Rattle.runs.specs.Event.{eventOf}
 use Rattle.ledger.specs.Bits.{bytes}
 use Rattle.ledger.specs.History.{Entry}
 use Rattle.ledger.specs.Stores.{Store, stored}
-use Rattle.ledger.specs.SpiLedger.{End, unended, ended, Item, powerOn, powerOff, selection, items, Reading, partial, command, reading, dataBytes, asleep, withoutIgnored, unlessAny, enableAfter, enabled, SavedBits, writes}
+use Rattle.ledger.specs.SpiLedger.{End, unended, ended, Item, powerOn, powerOff, selection, Reading, partial, command, reading, dataBytes, asleep, withoutIgnored, unlessAny, enableAfter, enabled, SavedBits, writes}
 use Rattle.ledger.proofs.Proper.{AllProper, proper-last}
 use Rattle.ledger.proofs.StoreLaws.{storesOf, stored-append}
-use Rattle.promise.specs.Lists.{Observed, observed, modelAfter, memoryAfter}
+use Rattle.promise.specs.Lists.{Observed, observed, modelAfter}
 use Rattle.promise.specs.Fed.{withEvent}
 use Rattle.promise.specs.Ledger.{savedIn, ledgerStores}
-use Rattle.promise.specs.Promise.{madeBy, cut, thenCut, historyOf}
+use Rattle.promise.specs.Promise.{madeBy, cut, historyOf}
 use Rattle.promise.specs.Corollaries.{isWren, NoWren, OldOrNew, old, new, memoryAfterList, writesOf, itemsOf, NoEnableNoStore, NoWrenNoStore, OneEnableOneWrite, OneByteAtMost, CutKeepsMemory, CutWithoutPower}
 use Rattle.promise.proofs.Ranges.{range-wired, made-in, made-off}
 use Rattle.promise.proofs.Stays.{accepted-sized, cut-memory, cut-refused}

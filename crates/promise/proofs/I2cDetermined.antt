@@ -8,7 +8,7 @@ use Rattle.parts.specs.declared.part.Part.{Part}
 use Rattle.trace.specs.declared.event.Event.{Event}
 use Rattle.ledger.specs.History.{Entry}
 use Rattle.ledger.specs.I2cAnswers.{pulls, pullAnswer, presentAnswer}
-use Rattle.promise.specs.I2cAnswers.{AllAnswered, eventsOf, Determined}
+use Rattle.promise.specs.I2cAnswers.{eventsOf, Determined}
 
 module _ (p : Part) (pins : ℕ) (first : List ℕ) where
   -- what an event answers after a history

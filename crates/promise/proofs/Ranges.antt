@@ -28,7 +28,7 @@ abbrev pub InRange : Model → Type 0
 InRange s = (modelIn s ≡ true) × (busIn (partOf (s .part)) (s .status) (s .bus) ≡ true)
 
 -- as the two tests at once
-both : (s : Model) → InRange s → inRange s ≡ true
+pub both : (s : Model) → InRange s → inRange s ≡ true
 both s h = rw (h .0, h .1)
 
 each : (s : Model) → inRange s ≡ true → InRange s

@@ -4,21 +4,19 @@
 use Prim.Native.Nat.{ℕ, _+_, _-_, _*_, _/_, _%_, _^_, _<_, _≤_}
 use mathlib.Core.Path.{_≡_, ap, ap₂, _∙_}
 use mathlib.Core.Bool.{Bool, true, false}
-use mathlib.Core.List.{List, []}
+use mathlib.Core.List.{List}
 use native.Mathlib.Nat.{mod-eq-of-lt}
 use native.Mathlib.Omega.{arith}
-use lib.ListN.{length, getD}
+use lib.ListN.{getD}
 use Rattle.parts.specs.declared.part.Part.{Part}
 use Rattle.parts.specs.declared.status.Status.{Status}
 use Rattle.parts.specs.Status.{bit, statusByte}
-use Rattle.parts.specs.Table.{isSpi, partOf}
-use Rattle.selection.specs.declared.opcode.Command.the-variants.{RDSR, READ}
+use Rattle.parts.specs.Table.{partOf}
 use Rattle.parts.proofs.Rows.{part-fits}
 use Rattle.chip.specs.declared.model.Model.{Model}
 use Rattle.chip.proofs.CheckLaws.{model-in}
 use Rattle.ledger.specs.Bits.{number}
-use Rattle.ledger.specs.SpiLedger.{Item, items, command, reading, withoutIgnored, writes}
-use Rattle.ledger.specs.SpiAnswers.{memoryNow, registerNow}
+use Rattle.ledger.specs.SpiLedger.{items, withoutIgnored, writes}
 use Rattle.ledger.proofs.Proper.{stored-below, spi-proper}
 use Rattle.promise.specs.Ledger.{savedIn}
 use Rattle.promise.specs.Promise.{madeBy, historyOf}

@@ -33,7 +33,7 @@ use Rattle.ledger.specs.History.{Entry}
 use Rattle.ledger.specs.SpiLedger.{unended, Item, selection, lastSample, items, command, reading, SavedBits}
 use Rattle.ledger.specs.SpiAnswers.{readShows, memoryNow, registerNow}
 use Rattle.ledger.proofs.SpiOutputs.{reading-more, rdsr-shown, read-shown}
-use Rattle.promise.specs.Lists.{Observed, modelAfter, memoryAfter}
+use Rattle.promise.specs.Lists.{modelAfter, memoryAfter}
 use Rattle.promise.specs.Ledger.{savedIn}
 use Rattle.promise.specs.Promise.{madeBy, historyOf}
 use Rattle.promise.specs.SpiAnswers.{observedAfter}

@@ -101,7 +101,7 @@ module _ (b m result : List ℕ) (n : ℕ) (e : n ≡ openNumber b (length resul
   begun = opened b result m (sym e ∙ z)
 
   pub begun-taken : taken b ≡ true
-  begun-taken = opened-taken b result m (begun .takes)
+  begun-taken = opened-taken b result (begun .takes)
 
   pub event-done : (t : List ℕ) (told : Told) (image memory r : List ℕ) → told ≡ toldBy (eventOf (stateOf b) m t) → image ≡ imageOf (eventOf (stateOf b) m t .result .model)
       → memory ≡ eventOf (stateOf b) m t .memory → r ≡ eventResult (told .answer) (told .flag) result
