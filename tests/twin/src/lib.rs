@@ -1,6 +1,8 @@
-//! An independent model of the five parts, kept as a second opinion: it is written from the papers
-//! of scope and of change requests alone and shares no line with the build that it is compared with.
-//! Only the layout of its images is taken from docs/IMAGE.md, which both have to follow.
+//! An independent model of the five parts, kept as a second opinion: its rules are taken from the
+//! papers of scope and of change requests, and it shares no line with the build that it is compared
+//! with. The layout of its images and, so that it can hold each state that has one, the phases of its
+//! buses are those of docs/IMAGE.md, as in the build. tests/by_rises tells the buses in the words of
+//! the paper of scope, without phases, and this model is held against it.
 
 #![forbid(unsafe_code)]
 
