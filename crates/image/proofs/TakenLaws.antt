@@ -1,9 +1,10 @@
 -- Images and states: each state that passes 1 and 2 has one image, each image that is taken has one state, and a buffer of bytes is taken
 -- exactly if it is such an image. From the laws of the fields. Assumes nothing.
-use Prim.Native.Nat.{ℕ, suc, _+_, _*_, _/_, _%_, _<_}
+use Prim.Native.Nat.{ℕ, suc, _+_, _*_, _<_}
 use mathlib.Core.Path.{_≡_, refl, sym, ap, _∙_}
 use mathlib.Core.Bool.{true, _&&_}
 use mathlib.Core.List.{List, [], _∷_, _++_}
+use native.Mathlib.Nat.{zero-add}
 use native.Mathlib.Omega.{arith}
 use lib.Dec.{eqb}
 use lib.ListN.{length, drop, getD, replicate, length-drop}
@@ -18,27 +19,22 @@ use Rattle.image_fields.specs.Fields.{phaseFields, samePhase, sameFields}
 use Rattle.image.specs.Layout.{headBytes, spelled, fieldsIn, Small}
 use Rattle.image_fields.specs.State.{fieldsOf, stateIn}
 use Rattle.image.specs.Taken.{imageOf, stateOf, inRange, zeros, taken, Bytes, ImageOf}
+use Rattle.image.proofs.WordLaws.{head-bytes, three-bytes}
 use Rattle.image.proofs.RangeLaws.{inside, small-fields}
 use Rattle.image_fields.proofs.StateLaws.{state-back}
 
 -- ---- three bytes
 
-three-back : (n : ℕ) → n < 16777216 → 65536 * (n / 65536 % 256) + 256 * (n / 256 % 256) + n / 1 % 256 ≡ n
-three-back n h = omega arith
-
-three-bytes : (a b c : ℕ) → a < 256 → b < 256 → c < 256 → bytesOf 3 (65536 * a + 256 * b + c) ≡ a ∷ b ∷ c ∷ []
-three-bytes a b c p q r =
-    let x : ℕ = 65536 * a + 256 * b + c in
-    let k2 : x / 65536 % 256 ≡ a = omega arith in
-    let k1 : x / 256 % 256 ≡ b = omega arith in
-    let k0 : x / 1 % 256 ≡ c = omega arith in
-    simp (k2, k1, k0)
+-- the number that three bytes make has these bytes: they are the last three of eight
+three-make : (a b c : ℕ) → a < 256 → b < 256 → c < 256 → bytesOf 3 (65536 * a + 256 * b + c) ≡ a ∷ b ∷ c ∷ []
+three-make a b c p q r =
+    rw (zero-add (65536 * a)) at (ap (drop 5) (head-bytes 0 0 0 0 0 a b c (omega arith) (omega arith) (omega arith) (omega arith) (omega arith) p q r))
 
 -- ---- fields
 
 -- the fields that the bytes of some fields hold are these
 pub fields-back : (f : Fields) → Small f → fieldsIn (spelled f) ≡ f
-fields-back f s = rw (three-back (f .phase .value) (s .phase .value), three-back (f .phase .address) (s .phase .address), three-back (f .buffer) (s .buffer))
+fields-back f s = rw (← three-bytes (f .phase .value) (s .phase .value), ← three-bytes (f .phase .address) (s .phase .address), ← three-bytes (f .buffer) (s .buffer))
 
 -- fields that compare as the same are the same
 phase-of : {t t′ c c′ v v′ x x′ d d′ : ℕ} → t ≡ t′ → c ≡ c′ → v ≡ v′ → x ≡ x′ → d ≡ d′ → phaseFields t c v x d ≡ phaseFields t′ c′ v′ x′ d′
@@ -74,16 +70,17 @@ same-is a b h =
         → fieldsWith a b c d e f g h i x ≡ fieldsWith a′ b′ c′ d′ e′ f′ g′ h′ i′ x′
     fields-of p1 p2 p3 p4 p5 p6 p7 p8 p9 p10 = rw (p1, p2, p3, p4, p5, p6, p7, p8, p9, p10)
 
--- and fields compare as the same as themselves
-same-itself : (n : ℕ) → eqb n n ≡ true
+-- a number compares as the same as itself
+pub same-itself : (n : ℕ) → eqb n n ≡ true
 same-itself n = eq-eqb n n refl
 
+-- and so do fields
 same-self : (f : Fields) → sameFields f f ≡ true
 same-self f = simp same-itself
 
 -- ---- bytes
 
--- twelve bytes that are all 0
+-- bytes that compare as 0, each of them, are as many zeros
 zeros-are : (l : List ℕ) → zeros l ≡ true → l ≡ replicate (length l) 0
 zeros-are [] h = refl
 zeros-are (x ∷ l) h =
@@ -99,8 +96,8 @@ module _ (b : List ℕ) (h : length b ≡ 32) where
   -- the bytes of the fields that a buffer holds are its own
   pub bytes-back : Bytes b → zeros (drop 20 b) ≡ true → spelled (fieldsIn b) ≡ b
   bytes-back k z =
-      by (bytesOf 3 (threeAt b 9)) (bytesOf 3 (threeAt b 12)) (bytesOf 3 (threeAt b 16)) (three-bytes _ _ _ (k 9) (k 10) (k 11))
-      (three-bytes _ _ _ (k 12) (k 13) (k 14)) (three-bytes _ _ _ (k 16) (k 17) (k 18))
+      by (bytesOf 3 (threeAt b 9)) (bytesOf 3 (threeAt b 12)) (bytesOf 3 (threeAt b 16)) (three-make _ _ _ (k 9) (k 10) (k 11))
+      (three-make _ _ _ (k 12) (k 13) (k 14)) (three-make _ _ _ (k 16) (k 17) (k 18))
     where
       n : length (drop 20 b) ≡ 12
       n = simp length-drop (omega arith)

@@ -34,7 +34,7 @@ low : (n : ℕ) → n % 256 < 256
 low n = omega arith
 
 -- a number of three bytes by these
-three-bytes : (n : ℕ) → n < 16777216 → n ≡ 65536 * byteOf n 2 + 256 * byteOf n 1 + byteOf n 0
+pub three-bytes : (n : ℕ) → n < 16777216 → n ≡ 65536 * byteOf n 2 + 256 * byteOf n 1 + byteOf n 0
 three-bytes n h = omega arith
 
 -- a byte, three, three, a byte

@@ -24,8 +24,9 @@ use Rattle.image_fields.specs.I2cPhase as I2cPhase
 use Rattle.image_fields.specs.State.{busFields, statusIn, spiIn, i2cIn, busFrom, stateIn}
 use Rattle.image.specs.Layout.{fieldsIn}
 use Rattle.image.specs.Taken.{inRange, zeros, takesFields, taken}
+use Rattle.image.proofs.TakenLaws.{same-itself}
 use Rattle.image_check.specs.Bus.{takesBus}
-use Rattle.image_check.proofs.FieldLaws.{and-false, either, only, same-itself, zero-first, flag-small, spi-small, i2c-small, shown-small, pull-small}
+use Rattle.image_check.proofs.FieldLaws.{and-false, either, only, zero-first, flag-small, spi-small, i2c-small, shown-small, pull-small}
 
 -- ---- tests one after another
 

@@ -13,6 +13,7 @@ use Rattle.transfer.specs.Levels as I2cLevels
 use Rattle.i2c.specs.Sample.{answerOf}
 use Rattle.chip.specs.Check.{bitsClear}
 use Rattle.image_fields.specs.State.{statusIn, answerIn}
+use Rattle.image_fields.proofs.LevelLaws.{one-bit, low-bit, spi-sample-same, i2c-sample-same}
 use Rattle.image_fields.proofs.StateLaws.{answer-small}
 
 -- ---- tests
@@ -33,9 +34,6 @@ pub only : (b : Bool) → cond b true false ≡ b
 only true = refl
 only false = refl
 
-pub same-itself : (n : ℕ) → eqb n n ≡ true
-same-itself n = eq-eqb n n refl
-
 pub zero-first : (n : ℕ) → eqb 0 n ≡ eqb n 0
 zero-first zero = refl
 zero-first (suc n) = eqb·zero-suc n ∙ sym (eqb·suc-zero n)
@@ -53,14 +51,6 @@ iff false false f g = refl
 
 -- ---- bits
 
-one-bit : (k : ℕ) → k < 2 → bit (eqb k 1) ≡ k
-one-bit zero h = refl
-one-bit (suc zero) h = refl
-one-bit (suc (suc k)) h = absurd (omega arith)
-
-low-bit : (n : ℕ) → bit (eqb (n % 2) 1) ≡ n % 2
-low-bit n = one-bit (n % 2) (omega arith)
-
 pub flag-small : (n : ℕ) → n < 2 → eqb (bit (eqb n 1)) n ≡ true
 flag-small n h = eq-eqb _ n (one-bit n h)
 
@@ -70,12 +60,7 @@ flag-large n h = ne-eqb _ n (λ e. omega (arith, bit-small (eqb n 1)))
 -- ---- samples
 
 pub spi-small : (n : ℕ) → n < 32 → eqb (SpiLevels.sampleOf (SpiLevels.levelsOf n)) n ≡ true
-spi-small n h =
-    let h4 : n / 4 ≡ n / 2 / 2 = omega arith in
-    let h8 : n / 8 ≡ n / 4 / 2 = omega arith in
-    let h16 : n / 16 ≡ n / 8 / 2 = omega arith in
-    let z : n / 16 % 2 ≡ n / 16 = omega arith in
-    eq-eqb _ n (rw (low-bit n, low-bit (n / 2), low-bit (n / 4), low-bit (n / 8), low-bit (n / 16)) (omega arith))
+spi-small n h = eq-eqb _ n (spi-sample-same n h)
 
 pub spi-large : (n : ℕ) → 32 ≤ n → eqb (SpiLevels.sampleOf (SpiLevels.levelsOf n)) n ≡ false
 spi-large n h =
@@ -83,10 +68,7 @@ spi-large n h =
     (λ e. omega (arith, e, bit-small (eqb (n % 2) 1), bit-small (eqb (n / 2 % 2) 1), bit-small (eqb (n / 4 % 2) 1), bit-small (eqb (n / 8 % 2) 1), bit-small (eqb (n / 16 % 2) 1)))
 
 pub i2c-small : (n : ℕ) → n < 8 → eqb (I2cLevels.sampleOf (I2cLevels.levelsOf n)) n ≡ true
-i2c-small n h =
-    let h4 : n / 4 ≡ n / 2 / 2 = omega arith in
-    let z : n / 4 % 2 ≡ n / 4 = omega arith in
-    eq-eqb _ n (rw (low-bit n, low-bit (n / 2), low-bit (n / 4)) (omega arith))
+i2c-small n h = eq-eqb _ n (i2c-sample-same n h)
 
 pub i2c-large : (n : ℕ) → 8 ≤ n → eqb (I2cLevels.sampleOf (I2cLevels.levelsOf n)) n ≡ false
 i2c-large n h = ne-eqb _ n (λ e. omega (arith, e, bit-small (eqb (n % 2) 1), bit-small (eqb (n / 2 % 2) 1), bit-small (eqb (n / 4 % 2) 1)))

@@ -1,6 +1,6 @@
 // The fields of an image, before they are bytes.
 ghost use mathlib.Core.Path.{_≡_};
-ghost use Rattle.image_fields.specs.Fields.{onlyTag};
+ghost use Rattle.image_fields.specs.Fields.{phaseFields, onlyTag};
 
 // What the part waits for.
 pub struct PhaseFields {
@@ -22,6 +22,19 @@ pub struct Fields {
     pub phase: PhaseFields,
     pub buffer: u32,
     pub used: u8,
+}
+
+// A phase with its numbers.
+pub fn with_numbers(tag: u8, count: u8, value: u32, address: u32, detail: u8) -> PhaseFields
+    ensures { λ r. ⌜ r ≡ phaseFields tag count value address detail ⌝ }
+{
+    PhaseFields {
+        tag,
+        count,
+        value,
+        address,
+        detail,
+    }
 }
 
 // A phase that has no numbers.

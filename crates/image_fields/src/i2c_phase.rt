@@ -1,6 +1,5 @@
 // The phase of an I2C part as fields, and back.
 ghost use mathlib.Core.Path.{_≡_};
-ghost use Rattle.image_fields.specs.Fields.{phaseFields};
 ghost use Rattle.image_fields.specs.I2cPhase.{a16Address, takingFields, fieldsOf, takingIn, phaseIn};
 use crate::fields::PhaseFields;
 use transfer::phase::Field;
@@ -13,26 +12,18 @@ fn a16_address(a16: bool) -> u32
     65536 * parts::status::bit_of(a16) as u32
 }
 
-fn with_address(tag: u8, count: u8, value: u32, address: u32, detail: u8) -> PhaseFields
-    ensures { λ r. ⌜ r ≡ phaseFields tag count value address detail ⌝ }
-{
-    PhaseFields {
-        tag,
-        count,
-        value,
-        address,
-        detail,
-    }
-}
-
 fn taking_fields(field: Field, count: u8, value: u32) -> PhaseFields
     ensures { λ r. ⌜ r ≡ takingFields field count value ⌝ }
 {
     match field {
-        Field::Word => with_address(0x18, count, value, 0, 0),
-        Field::HighByte { a16 } => with_address(0x19, count, value, a16_address(a16), 0),
-        Field::LowByte { a16, high } => with_address(0x1A, count, value, a16_address(a16), high),
-        Field::Data { address } => with_address(0x1B, count, value, address, 0),
+        Field::Word => crate::fields::with_numbers(0x18, count, value, 0, 0),
+        Field::HighByte { a16 } => {
+            crate::fields::with_numbers(0x19, count, value, a16_address(a16), 0)
+        }
+        Field::LowByte { a16, high } => {
+            crate::fields::with_numbers(0x1A, count, value, a16_address(a16), high)
+        }
+        Field::Data { address } => crate::fields::with_numbers(0x1B, count, value, address, 0),
     }
 }
 
@@ -47,7 +38,9 @@ pub fn fields_of(phase: Phase) -> PhaseFields
             count,
             value,
         } => taking_fields(field, count, value),
-        Phase::Sending { address, count } => with_address(0x28, count, 0, address, 0),
+        Phase::Sending { address, count } => {
+            crate::fields::with_numbers(0x28, count, 0, address, 0)
+        }
     }
 }
 

@@ -1,6 +1,5 @@
 // The phase of an SPI part as fields, and back.
 ghost use mathlib.Core.Path.{_≡_};
-ghost use Rattle.image_fields.specs.Fields.{phaseFields};
 ghost use Rattle.image_fields.specs.SpiPhase.{takingFields, showingFields, waitingFields, fieldsOf, takingIn, showingIn, phaseIn};
 use crate::fields::PhaseFields;
 use selection::phase::Action;
@@ -8,32 +7,19 @@ use selection::phase::Field;
 use selection::phase::Phase;
 use selection::phase::Source;
 
-// A field whose bits come in, with the address and the detail that it has.
-fn taking(tag: u8, count: u8, value: u32, address: u32, detail: u8) -> PhaseFields
-    ensures { λ r. ⌜ r ≡ phaseFields tag count value address detail ⌝ }
-{
-    PhaseFields {
-        tag,
-        count,
-        value,
-        address,
-        detail,
-    }
-}
-
 fn taking_fields(field: Field, count: u8, value: u32) -> PhaseFields
     ensures { λ r. ⌜ r ≡ takingFields field count value ⌝ }
 {
     match field {
-        Field::Opcode => taking(0x10, count, value, 0, 0),
-        Field::ReadAddress => taking(0x11, count, value, 0, 0),
-        Field::FastAddress => taking(0x12, count, value, 0, 0),
-        Field::WriteAddress => taking(0x13, count, value, 0, 0),
-        Field::Dummy { address } => taking(0x14, count, value, address, 0),
+        Field::Opcode => crate::fields::with_numbers(0x10, count, value, 0, 0),
+        Field::ReadAddress => crate::fields::with_numbers(0x11, count, value, 0, 0),
+        Field::FastAddress => crate::fields::with_numbers(0x12, count, value, 0, 0),
+        Field::WriteAddress => crate::fields::with_numbers(0x13, count, value, 0, 0),
+        Field::Dummy { address } => crate::fields::with_numbers(0x14, count, value, address, 0),
         Field::Data { address, whole } => {
-            taking(0x15, count, value, address, parts::status::bit_of(whole))
+            crate::fields::with_numbers(0x15, count, value, address, parts::status::bit_of(whole))
         }
-        Field::StatusByte => taking(0x16, count, value, 0, 0),
+        Field::StatusByte => crate::fields::with_numbers(0x16, count, value, 0, 0),
     }
 }
 
@@ -41,9 +27,9 @@ fn showing_fields(source: Source, bit: u8) -> PhaseFields
     ensures { λ r. ⌜ r ≡ showingFields source bit ⌝ }
 {
     match source {
-        Source::Memory { address } => taking(0x20, bit, 0, address, 0),
-        Source::Register => taking(0x21, bit, 0, 0, 0),
-        Source::Identity { index } => taking(0x22, bit, 0, 0, index),
+        Source::Memory { address } => crate::fields::with_numbers(0x20, bit, 0, address, 0),
+        Source::Register => crate::fields::with_numbers(0x21, bit, 0, 0, 0),
+        Source::Identity { index } => crate::fields::with_numbers(0x22, bit, 0, 0, index),
     }
 }
 
@@ -54,7 +40,7 @@ fn waiting_fields(action: Action) -> PhaseFields
         Action::SetLatch => crate::fields::only_tag(0x30),
         Action::ClearLatch => crate::fields::only_tag(0x31),
         Action::FallAsleep => crate::fields::only_tag(0x32),
-        Action::WriteStatus { byte } => taking(0x33, 0, 0, 0, byte),
+        Action::WriteStatus { byte } => crate::fields::with_numbers(0x33, 0, 0, 0, byte),
     }
 }
 

@@ -3,7 +3,6 @@ use Prim.Native.Nat.{ℕ, _<_, _≤_}
 use mathlib.Core.Path.{_≡_, refl, sym, ap, _∙_}
 use mathlib.Core.Bool.{true, false}
 use mathlib.Core.List.{List}
-use native.Mathlib.Omega.{arith}
 use lib.Dec.{eqb}
 use lib.ListN.{length, getD}
 use borrow.Author.Tests.{eq-eqb, le-ltb}
@@ -27,6 +26,7 @@ use Rattle.image.specs.Layout.{fieldsIn}
 use Rattle.image.specs.Taken.{stateOf}
 use Rattle.image_sample.specs.declared.stepped.Stepped.{Stepped}
 use Rattle.image_sample.specs.Stepped.{steppedBy}
+use Rattle.image_sample.proofs.FieldLaws.{i2c-same}
 use Rattle.image_run.specs.Sampled.{ImageGives, ExpectedGives}
 
 -- what is held: the fields as they are, the value as the answer, no flag
@@ -47,16 +47,9 @@ module _ (f : Fields) (h : fieldsOf (stateIn f) ≡ f) (v : ℕ) (r : Stepped) (
   spi-held p k m d = by-answer (answerAt (levelsOf (f .last)) (answerIn (f .driven))) (advanceOf (stateIn f) m (Expected v)) m (rw (eq-eqb (f .power) 1 p)) k
 
   -- on I2C the answer is what the part drives
-  driven-is : f .power ≡ 2 → answerNumber (answerOf (eqb (f .driven) 0)) ≡ f .driven
-  driven-is p = rw p at (ap (λ (x : Fields). x .driven) h)
-
   pub i2c-held : f .power ≡ 2 → v ≡ f .driven → (m : List ℕ) → ExpectedGives f m v r
   unfolding advanceOf
-  i2c-held p k m d = by-answer (answerOf (eqb (f .driven) 0)) (advanceOf (stateIn f) m (Expected v)) m (rw p) (k ∙ sym (driven-is p))
-
--- nothing is said of what is not done
-pub not-held : (f : Fields) (v : ℕ) (r : Stepped) → r .done ≡ false → (m : List ℕ) → ExpectedGives f m v r
-not-held f v r h m d = let z : _≡_ {A = ℕ} 0 1 = cc in absurd (omega arith)
+  i2c-held p k m d = by-answer (answerOf (eqb (f .driven) 0)) (advanceOf (stateIn f) m (Expected v)) m (rw p) (k ∙ sym (i2c-same f h p .driven))
 
 -- an event of two bytes or more, whose first is 5
 pub expected-told : (b t m : List ℕ) → Sound (stateOf b) m → (f : Fields) (r : Stepped) → f ≡ fieldsIn b → 2 ≤ length t → getD t 0 0 ≡ 5

@@ -1,10 +1,9 @@
--- An event that is a sample in range, on an image of a part under power: what it gives is what the bus rules give. And what an event not
--- taken on fields comes to. Assumes nothing.
+-- An event that is a sample in range, on an image of a part under power: what it gives is what the bus rules give. And what they ask of the
+-- fields holds of those of an image that is taken. Assumes nothing.
 use Prim.Native.Nat.{ℕ, _<_, _≤_}
 use mathlib.Core.Path.{_≡_}
 use mathlib.Core.Bool.{true, false, not}
 use mathlib.Core.List.{List}
-use native.Mathlib.Omega.{arith}
 use lib.ListN.{length, getD}
 use borrow.Author.Tests.{eq-eqb, lt-ltb, le-ltb, not-true}
 use Rattle.parts.specs.declared.part.Part.{Part}
@@ -59,21 +58,9 @@ module _ (b t m : List ℕ) (sound : Sound (stateOf b) m) where
     pub i2c-told : f .power ≡ 2 → 2 ≤ length t → getD t 0 0 ≡ 4 → getD t 1 0 < 8 → Gives f m (getD t 1 0) r → ImageGives b t m r
     i2c-told p l k h g = gives r (sample-event l k (rw (limit-i2c bus (i2c-bus (rw e at p))) h)) (rw e at g)
 
-  -- nothing is said of what is not done
-  pub not-done : (r : Stepped) → r .done ≡ false → ImageGives b t m r
-  not-done r h d = let z : _≡_ {A = ℕ} 0 1 = cc in absurd (omega arith)
-
--- ---- what a sample on fields asks
+-- ---- what a sample on fields asks, by the bus: its power, and the limit of its samples
 
 module _ (b m : List ℕ) (h : taken b ≡ true) (sound : Sound (stateOf b) m) (f : Fields) (p : Part) (e : f ≡ fieldsIn b) (q : p ≡ partOf (f .part)) where
-  ready : {x limit power : ℕ} → f .power ≡ power → x < limit
+  pub ready : {x limit power : ℕ} → f .power ≡ power → x < limit
       → (fieldsOf (stateIn f) ≡ f) × (f .power ≡ power) × (x < limit) × (p ≡ partOf (f .part)) × Sound (stateIn f) m
   ready k l = (rw e (taken-fields b h), k, l, q, rw e sound)
-
-  pub spi-ready : {x : ℕ} → f .power ≡ 1 → x < 32
-      → (fieldsOf (stateIn f) ≡ f) × (f .power ≡ 1) × (x < 32) × (p ≡ partOf (f .part)) × Sound (stateIn f) m
-  spi-ready k l = ready k l
-
-  pub i2c-ready : {x : ℕ} → f .power ≡ 2 → x < 8
-      → (fieldsOf (stateIn f) ≡ f) × (f .power ≡ 2) × (x < 8) × (p ≡ partOf (f .part)) × Sound (stateIn f) m
-  i2c-ready k l = ready k l

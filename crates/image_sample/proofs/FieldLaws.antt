@@ -1,14 +1,11 @@
--- Fields that are those of the state that they read as, field by field; a sample is that of its levels; and nothing is said of one that is not
--- done. Assumes nothing.
-use Prim.Native.Nat.{ℕ, zero, suc, _/_, _%_, _<_}
-use mathlib.Core.Path.{_≡_, refl, ap}
+-- Fields that are those of the state that they read as, field by field; and nothing is said of what is not done. Assumes nothing.
+use Prim.Native.Nat.{ℕ}
+use mathlib.Core.Path.{_≡_, ap}
 use mathlib.Core.Bool.{Bool, true, false}
 use native.Mathlib.Omega.{arith}
 use lib.Dec.{eqb}
 use Rattle.parts.specs.Numbers.{answerNumber}
 use Rattle.parts.specs.Status.{bit, statusByte}
-use Rattle.selection.specs.Levels as SpiLevels
-use Rattle.transfer.specs.Levels as I2cLevels
 use Rattle.i2c.specs.Sample.{answerOf}
 use Rattle.image_fields.specs.declared.fields.Fields.{Fields}
 use Rattle.image_fields.specs.SpiPhase as SpiPhase
@@ -47,29 +44,8 @@ i2c-same f same on =
       phase = rw on at (ap (λ (y : Fields). y .phase) same);
     }
 
--- ---- a sample is that of its levels
+-- ---- what is not done
 
-level-bit : (y : ℕ) → y < 2 → bit (eqb y 1) ≡ y
-level-bit zero h = refl
-level-bit (suc zero) h = refl
-level-bit (suc (suc n)) h = absurd (omega arith)
-
-pub spi-sample-same : (x : ℕ) → x < 32 → SpiLevels.sampleOf (SpiLevels.levelsOf x) ≡ x
-spi-sample-same x h =
-    let h4 : x / 4 ≡ x / 2 / 2 = omega arith in
-    let h8 : x / 8 ≡ x / 4 / 2 = omega arith in
-    let h16 : x / 16 ≡ x / 8 / 2 = omega arith in
-    let h32 : x / 16 / 2 ≡ 0 = omega arith in
-    rw (level-bit (x % 2) (omega arith), level-bit (x / 2 % 2) (omega arith), level-bit (x / 4 % 2) (omega arith), level-bit (x / 8 % 2) (omega arith), level-bit (x / 16 % 2) (omega arith))
-    (omega arith)
-
-pub i2c-sample-same : (x : ℕ) → x < 8 → I2cLevels.sampleOf (I2cLevels.levelsOf x) ≡ x
-i2c-sample-same x h =
-    let h4 : x / 4 ≡ x / 2 / 2 = omega arith in
-    let h8 : x / 4 / 2 ≡ 0 = omega arith in
-    rw (level-bit (x % 2) (omega arith), level-bit (x / 2 % 2) (omega arith), level-bit (x / 4 % 2) (omega arith)) (omega arith)
-
--- ---- a sample that is not done
-
+-- whatever would be said of it if it were done
 pub left-undone : {A : Type 0} {d : Bool} → d ≡ false → d ≡ true → A
 left-undone e h = let z : _≡_ {A = ℕ} 0 1 = cc in absurd (omega arith)

@@ -34,11 +34,12 @@ use Rattle.image_fields.specs.declared.fields.Fields.{Fields}
 use Rattle.image_fields.specs.Fields.{onlyTag}
 use Rattle.image_fields.specs.I2cPhase as I2cPhase
 use Rattle.image_fields.specs.State.{fieldsOf, i2cIn, stateIn}
+use Rattle.image_fields.proofs.LevelLaws.{i2c-sample-same}
 use Rattle.image_sample.specs.declared.stepped.Stepped.{Stepped}
 use Rattle.image_sample.specs.Bits.{oneMore}
 use Rattle.image_sample.specs.Moved.{i2cMoved, i2cDone}
 use Rattle.image_sample.specs.Stepped.{Gives}
-use Rattle.image_sample.proofs.FieldLaws.{I2cSame, i2c-same, i2c-sample-same}
+use Rattle.image_sample.proofs.FieldLaws.{I2cSame, i2c-same}
 use Rattle.image_sample.proofs.I2cBits as Bits
 
 -- what `i2c_sample` asks

@@ -38,8 +38,9 @@ use Rattle.image_sample.specs.declared.stepped.Stepped.{Stepped}
 use Rattle.image_sample.specs.Bits.{earlyAt, oneMore}
 use Rattle.image_sample.specs.Moved.{spiMoved, spiDone}
 use Rattle.image_sample.specs.Stepped.{Gives}
+use Rattle.image_fields.proofs.LevelLaws.{spi-sample-same}
 use Rattle.image_fields.proofs.StateLaws.{answer-back}
-use Rattle.image_sample.proofs.FieldLaws.{SpiSame, spi-same, spi-sample-same}
+use Rattle.image_sample.proofs.FieldLaws.{SpiSame, spi-same}
 use Rattle.image_sample.proofs.SpiBits as Bits
 
 -- what `spi_sample` asks

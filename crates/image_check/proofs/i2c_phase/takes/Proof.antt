@@ -1,6 +1,7 @@
 -- `takes` meets its contract, tag by tag: fields of no tag are those of a part at rest, whose tag is another. Assumes nothing.
 use Rattle.image_fields.specs.I2cPhase.{phaseIn}
-use Rattle.image_check.proofs.FieldLaws.{and-true, same-itself, zero-first, up-to}
+use Rattle.image.proofs.TakenLaws.{same-itself}
+use Rattle.image_check.proofs.FieldLaws.{and-true, zero-first, up-to}
 use borrow.Author.Tests.{ne-eqb}
 use borrow.Author.Needs.{needs}
 use Rattle.image_check.proofs.i2c_phase.takes.Statement.{statement}

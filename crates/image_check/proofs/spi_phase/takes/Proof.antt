@@ -1,6 +1,7 @@
 -- `takes` meets its contract, tag by tag: fields of no tag are those of a part at rest, whose tag is another. Assumes nothing.
 use Rattle.image_fields.specs.SpiPhase.{phaseIn}
-use Rattle.image_check.proofs.FieldLaws.{and-true, same-itself, zero-first}
+use Rattle.image.proofs.TakenLaws.{same-itself}
+use Rattle.image_check.proofs.FieldLaws.{and-true, zero-first}
 use borrow.Author.Tests.{ne-eqb}
 use borrow.Author.Needs.{needs}
 use Rattle.image_check.proofs.spi_phase.takes.Statement.{statement}

@@ -13,7 +13,7 @@ returns-3 : tie.Need-returns-3
 returns-3 c = simp (c .taking-fields .ensures, c .before .before .phase .given .1)
 
 returns-4 : tie.Need-returns-4
-returns-4 c = simp (c .with-address .ensures, c .before .before .phase2 .given .1)
+returns-4 c = simp (c .with-numbers .ensures, c .before .before .phase2 .given .1)
 
 pub fields-of-spec : {M : Type 1} → statement M
 fields-of-spec =

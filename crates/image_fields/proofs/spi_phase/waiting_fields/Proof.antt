@@ -13,7 +13,7 @@ returns-3 : tie.Need-returns-3
 returns-3 c = simp (c .only-tag3 .ensures, c .before .enum-told3 .given .1)
 
 returns-4 : tie.Need-returns-4
-returns-4 c = simp (c .taking .ensures, c .before .before .action .given .1)
+returns-4 c = simp (c .with-numbers .ensures, c .before .before .action .given .1)
 
 pub waiting-fields-spec : {M : Type 1} → statement M
 waiting-fields-spec =

@@ -2,8 +2,9 @@
 -- Assumes nothing.
 use borrow.Author.Needs.{needs}
 use Rattle.image.proofs.TakenLaws.{taken-long, taken-fields, known-part}
+use Rattle.image_sample.proofs.FieldLaws.{left-undone}
 use Rattle.image_run.proofs.ExpectedLaws.{expected-told}
-use Rattle.image_run.proofs.SampleLaws.{spi-ready, spi-told, i2c-ready, i2c-told, not-done}
+use Rattle.image_run.proofs.SampleLaws.{ready, spi-told, i2c-told}
 use Rattle.image_run.proofs.fields.on_fields.Statement.{statement}
 use Rattle.image_run.proofs.fields.on_fields.Tie as tie
 
@@ -11,9 +12,7 @@ fields-in-requires : tie.Need-fields-in-requires
 fields-in-requires c κs = taken-long _ (c .before .before .before .pre .0)
 
 returns : tie.Need-returns
-returns c =
-    let start = c .before .before .before .before .before .before in
-    not-done (start .args .state .now) (start .args .event .now) (start .args .memory .now) (start .pre .1) _ (c .undone .ensures)
+returns c = left-undone (c .undone .ensures)
 
 expected-on-requires : tie.Need-expected-on-requires
 expected-on-requires c κs =
@@ -26,9 +25,7 @@ returns-2 c =
     expected-told (start .args .state .now) (start .args .event .now) (start .args .memory .now) (start .pre .1) _ _ (c .before .before .before .before .before .fields-in .ensures) (c .before .before .before .before .if1 .left) (c .before .if2 .taken) (c .expected-on .ensures)
 
 returns-3 : tie.Need-returns-3
-returns-3 c =
-    let start = c .before .before .before .before .before .before .before .before .before .before .before in
-    not-done (start .args .state .now) (start .args .event .now) (start .args .memory .now) (start .pre .1) _ (c .undone2 .ensures)
+returns-3 c = left-undone (c .undone2 .ensures)
 
 part-of-requires : tie.Need-part-of-requires
 part-of-requires c κs =
@@ -38,7 +35,7 @@ part-of-requires c κs =
 spi-sample-requires : tie.Need-spi-sample-requires
 spi-sample-requires c κs =
     let start = c .before .before .before .before .before .before .before .before .before .before .before .before .before .before in
-    spi-ready (start .args .state .now) (start .args .memory .now) (start .pre .0) (start .pre .1) _ _ (c .before .before .before .before .before .before .before .before .before .before .fields-in .ensures) (c .before .before .part-of .ensures) (c .before .if4 .taken) (c .if5 .taken)
+    ready (start .args .state .now) (start .args .memory .now) (start .pre .0) (start .pre .1) _ _ (c .before .before .before .before .before .before .before .before .before .before .fields-in .ensures) (c .before .before .part-of .ensures) (c .before .if4 .taken) (c .if5 .taken)
 
 returns-4 : tie.Need-returns-4
 returns-4 c =
@@ -48,7 +45,7 @@ returns-4 c =
 i2c-sample-requires : tie.Need-i2c-sample-requires
 i2c-sample-requires c κs =
     let start = c .before .before .before .before .before .before .before .before .before .before .before .before .before .before .before in
-    i2c-ready (start .args .state .now) (start .args .memory .now) (start .pre .0) (start .pre .1) _ _ (c .before .before .before .before .before .before .before .before .before .before .before .fields-in .ensures) (c .before .before .before .part-of .ensures) (c .before .if6 .taken) (c .if7 .taken)
+    ready (start .args .state .now) (start .args .memory .now) (start .pre .0) (start .pre .1) _ _ (c .before .before .before .before .before .before .before .before .before .before .before .fields-in .ensures) (c .before .before .before .part-of .ensures) (c .before .if6 .taken) (c .if7 .taken)
 
 returns-5 : tie.Need-returns-5
 returns-5 c =
@@ -56,9 +53,7 @@ returns-5 c =
     i2c-told (start .args .state .now) (start .args .event .now) (start .args .memory .now) (start .pre .1) _ _ (c .before .before .before .before .before .before .before .before .before .before .before .before .fields-in .ensures) (c .before .before .if6 .taken) (c .before .before .before .before .before .before .before .before .before .before .before .if1 .left) (c .before .before .before .before .before .before .if3 .left) (c .before .if7 .taken) (c .i2c-sample .ensures)
 
 returns-6 : tie.Need-returns-6
-returns-6 c =
-    let start = c .before .before .before .before .before .before .before .before .before .before .before .before .before .before .before in
-    not-done (start .args .state .now) (start .args .event .now) (start .args .memory .now) (start .pre .1) _ (c .undone3 .ensures)
+returns-6 c = left-undone (c .undone3 .ensures)
 
 pub on-fields-spec : {M : Type 1} → statement M
 on-fields-spec =
