@@ -6,6 +6,8 @@ use mathlib.Core.Bool.{Bool, true, false, cond}
 use mathlib.Core.List.{List, []}
 use native.Mathlib.Omega.{arith}
 use lib.ListN.{length}
+use Rattle.parts.specs.declared.refusal.Refusal.{Refusal}
+use Rattle.parts.specs.declared.refusal.Refusal.the-variants.{UnknownKind, NotDeselected, BufferLength}
 use Rattle.chip.specs.declared.check.Verdict.{Verdict}
 use Rattle.chip.specs.declared.check.Verdict.the-variants.{Passed, Failed}
 use Rattle.chip.specs.declared.model.Model.{Model}
@@ -18,7 +20,7 @@ use Rattle.runs.proofs.RunLaws.{loop-induction}
 use Rattle.image.specs.Taken.{imageOf, stateOf, Bytes}
 use Rattle.calls.specs.Calls.{opens, stateNumber, EventCall, eventLeft, eventCall, RunCall, runLeft, runCall, SelectCall, selectLeft, selectCall}
 use Rattle.calls.specs.Result.{eventResult, runResult, selectResult}
-use Rattle.calls.proofs.SelectCases.{select-by}
+use Rattle.calls.proofs.SelectCases.{refusal, select-by}
 use Rattle.calls.proofs.Opening.{opened-same}
 
 -- ---- a selection as bytes that is refused leaves state, memory and buffer
@@ -27,10 +29,12 @@ module _ (wp : Bool) (s : Model) (input output m : List ℕ) where
   abbrev Kept : Select → Type 0
   Kept x = (x .number ≡ 0 → ⊥) → (x .model ≡ s) × (x .memory ≡ m) × (x .output ≡ output) × (x .first ≡ 0) × (x .count ≡ 0)
 
+  refused : (r : Refusal) → Kept (refusal wp s input output m r)
+  refused r = λ z. (refl, refl, refl, refl, refl)
+
   pub select-stays : Kept (selectOf wp s input output m)
   select-stays =
-      select-by wp s input output m Kept (λ r e z. (refl, refl, refl, refl, refl)) (λ z. (refl, refl, refl, refl, refl)) (λ z. (refl, refl, refl, refl, refl)) (λ z. (refl, refl, refl, refl, refl))
-      (λ c z. absurd (z refl))
+      select-by wp s input output m Kept (λ r e. refused r) (refused UnknownKind) (refused NotDeselected) (refused BufferLength) (λ c z. absurd (z refl))
 
 -- ---- a run that accepts no event leaves state and memory, and has no answers
 
