@@ -12,6 +12,7 @@
 
 #define PART 0           /* MR45V032A */
 #define MEMORY 4096      /* its bytes */
+#define FILL 0xee        /* what each of them holds at first */
 #define LATCH 0x02       /* the write enable latch, WEL, in the status register */
 
 /* All that there is of the chip: state and memory, and what the last call gave. */
@@ -61,7 +62,7 @@ int main(void)
     uint8_t output[5];
     int before_first, before_second;
 
-    memset(memory, 0xee, sizeof memory);
+    memset(memory, FILL, sizeof memory);
     must(sildrokk_make(PART, 0, 0, state, sizeof state), "the making");
     event(power_on, sizeof power_on, "the power on");
     selection(wren, output, sizeof wren, "WREN");
@@ -73,8 +74,8 @@ int main(void)
     printf("READ shows   000h: %02Xh, 001h: %02Xh\n", output[3], output[4]);
     event(power_off, sizeof power_off, "the power off");
     printf("memory holds 000h: %02Xh, 001h: %02Xh\n", memory[0], memory[1]);
-    if (!before_first || before_second) {
-        puts("The write enable latch is not what it should be.");
+    if (!before_first || before_second || memory[0] != first[3] || memory[1] != FILL) {
+        puts("The write enable latch or the memory is not what it should be.");
         return EXIT_FAILURE;
     }
     puts("The first WRITE was stored. The write enable latch fell when it ended, so the second was dropped and 001h kept its byte.");

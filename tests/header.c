@@ -167,11 +167,13 @@ static void selections(void)
    of 32 bytes is written all the same. */
 static void lengths(size_t state_length, size_t result_length)
 {
-    struct model it = made(0);
-    uint8_t state[33] = {0}, before[33], output[1] = {0xa5}, result[33], left[33];
+    struct model it = made(0), before;
+    uint8_t state[33] = {0}, state_before[33], output[1] = {0xa5}, result[33], left[33];
 
+    memset(it.memory, 0x5a, sizeof it.memory);
+    before = it;
     memcpy(state, it.state, sizeof it.state);
-    memcpy(before, state, sizeof state);
+    memcpy(state_before, state, sizeof state);
     memset(result, 0xa5, sizeof result);
     memset(left, 0xa5, sizeof left);
     check(sildrokk_event(state, state_length, power_on, sizeof power_on, it.memory, it.size, result, result_length) == 2
@@ -184,7 +186,8 @@ static void lengths(size_t state_length, size_t result_length)
                           result, result_length) == 2
           && result[15] == (result_length == 32 ? 0 : 0xa5), "a selection with other lengths");
     check(result_length == 32 || memcmp(result, left, sizeof left) == 0, "a result of another length");
-    check(memcmp(state, before, sizeof state) == 0 && output[0] == 0xa5, "what they leave");
+    check(memcmp(state, state_before, sizeof state) == 0 && output[0] == 0xa5, "what they leave");
+    check(memcmp(it.memory, before.memory, sizeof it.memory) == 0, "the memory that they leave");
 }
 
 /* An image with one of its unused bytes set is none. */
@@ -199,6 +202,7 @@ static void unused_byte(void)
         before = it;
         check(event(&it, power_on, sizeof power_on, result) == 2, "an unused byte");
         check(memcmp(it.state, before.state, sizeof it.state) == 0, "what it leaves");
+        check(memcmp(it.memory, before.memory, sizeof it.memory) == 0, "the memory that it leaves");
         it.state[at] = 0;
     }
     check(event(&it, power_on, sizeof power_on, result) == 0, "the same without it");

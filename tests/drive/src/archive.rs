@@ -105,13 +105,15 @@ pub fn make(making: Making, state: Room) -> u8 {
     unsafe { sildrokk_make(part, pins, bits, state.at, state.length) }
 }
 
-/// A making into a buffer that nothing was written to before, so that valgrind tells if it reads it, or
-/// if bytes of the state are used that it has not written. None if it is refused.
-pub fn make_unread(making: Making) -> Option<Box<[u8]>> {
-    let mut state = Box::new_uninit_slice(STATE);
-    let number = make(making, (&mut *state).into());
-    // SAFETY: a making that is not refused writes the whole state.
-    (number == 0).then(|| unsafe { state.assume_init() })
+/// A making into a buffer of this length that nothing was written to before, so that valgrind tells if
+/// it reads it, or if bytes of the state are used that it has not written. The number if it is refused.
+pub fn make_unread(making: Making, length: usize) -> Result<Box<[u8]>, u8> {
+    let mut state = Box::new_uninit_slice(length);
+    match (make(making, (&mut *state).into()), length) {
+        // SAFETY: a making that is not refused writes the whole state.
+        (0, STATE) => Ok(unsafe { state.assume_init() }),
+        (number, _) => Err(number),
+    }
 }
 
 /// `sildrokk_event`: the number it returns.

@@ -2,6 +2,7 @@
 //! proved build, and on the twin.
 
 use crate::archive::{self, Lent, Room};
+use crate::odd::Odd;
 use crate::outcome::{result_of, LEFT, RESULT};
 use twin::{Model, Ran, Selected, NOTHING};
 
@@ -44,11 +45,28 @@ impl Ask {
             memory,
             result: result.as_mut_slice().into(),
         };
-        let number = self.with_room(shown.as_mut_slice().into(), lent);
+        let number = self.with_room(self.bytes(), shown.as_mut_slice().into(), lent);
         Gave {
             number,
             result,
             shown,
+        }
+    }
+
+    /// The same call with every buffer at an odd address, since none needs an alignment.
+    pub fn call_odd(&self, state: &mut Odd, memory: &mut Odd) -> Gave {
+        let mut result = Odd::from(&[LEFT; RESULT][..]);
+        let mut shown = Odd::from(&vec![LEFT; self.room()][..]);
+        let lent = Lent {
+            state,
+            memory,
+            result: (&mut *result).into(),
+        };
+        let number = self.with_room(&Odd::from(self.bytes()), (&mut *shown).into(), lent);
+        Gave {
+            number,
+            result: result.to_vec(),
+            shown: shown.to_vec(),
         }
     }
 
@@ -61,15 +79,26 @@ impl Ask {
             memory,
             result: (&mut *result).into(),
         };
-        self.with_room((&mut *shown).into(), lent)
+        self.with_room(self.bytes(), (&mut *shown).into(), lent)
     }
 
-    fn with_room(&self, room: Room, lent: Lent) -> u8 {
+    /// The call with its bytes wherever they are lent from.
+    fn with_room(&self, bytes: &[u8], room: Room, lent: Lent) -> u8 {
         match self {
-            Ask::Event(event) => archive::event(event, lent),
-            Ask::Run { trace, quota } => archive::run(trace, *quota, lent),
-            Ask::Replay { trace, quota, .. } => archive::replay(trace, *quota, room, lent),
-            Ask::Select { wp, input, .. } => archive::select(*wp, input, room, lent),
+            Ask::Event(_) => archive::event(bytes, lent),
+            Ask::Run { quota, .. } => archive::run(bytes, *quota, lent),
+            Ask::Replay { quota, .. } => archive::replay(bytes, *quota, room, lent),
+            Ask::Select { wp, .. } => archive::select(*wp, bytes, room, lent),
+        }
+    }
+
+    /// The event, the trace or the input.
+    fn bytes(&self) -> &[u8] {
+        match self {
+            Ask::Event(bytes)
+            | Ask::Run { trace: bytes, .. }
+            | Ask::Replay { trace: bytes, .. }
+            | Ask::Select { input: bytes, .. } => bytes,
         }
     }
 

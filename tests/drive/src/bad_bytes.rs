@@ -36,7 +36,7 @@ pub fn calls() -> Vec<Bad> {
 }
 
 /// A trace that stores one byte and leaves the part at rest, enabled if it is on SPI.
-fn storing(part: &Part) -> Vec<u8> {
+fn trace_before(part: &Part) -> Vec<u8> {
     let mut script = one_stored(part);
     if part.wires == Wires::Spi {
         script.command(&[6]);
@@ -55,7 +55,7 @@ fn good(part: &Part) -> [ByteCall; 3] {
     let writes = [codes_of.addressed(2, SELECTED_AT), data].concat();
     let shows = [codes_of.addressed(3, STORED_AT - 1), vec![0; 4]].concat();
     [writes, shows, Vec::new()]
-        .map(|input| ByteCall::whole(plain(part.number), storing(part), 1, input))
+        .map(|input| ByteCall::whole(plain(part.number), trace_before(part), 1, input))
 }
 
 /// Each good call changed in each of some ways, with the number to come.

@@ -2,6 +2,7 @@
 
 use crate::archive::Lent;
 use crate::ask::{Ask, Gave};
+use crate::odd::Odd;
 use crate::outcome::{first_difference, RESULT};
 use crate::{made, Making};
 use twin::image::encode;
@@ -57,12 +58,13 @@ impl Pair {
     }
 
     /// What both gave, with the same state and memory left; or in what they differ. The proved build
-    /// is asked twice, the first time on a copy.
+    /// is asked twice, the first time on a copy, and there with every buffer at an odd address.
     pub fn ask(&mut self, ask: &Ask) -> Result<Gave, String> {
-        let mut copy = self.held.clone();
-        let first = copy.ask(ask);
+        let mut state = Odd::from(&self.held.state[..]);
+        let mut memory = Odd::from(&self.held.memory[..]);
+        let first = ask.call_odd(&mut state, &mut memory);
         let gave = self.held.ask(ask);
-        if gave != first || self.held != copy {
+        if gave != first || self.held.state != *state || self.held.memory != *memory {
             return Err(format!("{gave:x?}, and on a copy {first:x?}"));
         }
         let theirs = ask.twin(&mut self.model, &mut self.memory);

@@ -1,13 +1,17 @@
 //! Calls with every length of state and result from 0 to 40: 2 unless both are 32 bytes, before 3 and
 //! before anything that is asked of the trace, and nothing is changed; a result of 32 bytes is written
-//! all the same, and any other is left.
+//! all the same, and any other is left. A making has a state alone.
 
 use crate::ask::Ask;
 use crate::held::Held;
-use crate::outcome::{RESULT, STATE};
+use crate::outcome::{LEFT, RESULT, STATE};
 use crate::refused::power_on;
-use crate::Making;
-use twin::{Part, PARTS};
+use crate::{archive, tried, Making};
+use std::ops::RangeInclusive;
+use twin::image::encode;
+use twin::{Model, Part, PARTS};
+
+pub const LENGTHS: RangeInclusive<usize> = 0..=40;
 
 /// Each call with something to do, and with nothing; the power on is refused under power.
 pub fn asks(part: &Part) -> Vec<Ask> {
@@ -59,21 +63,62 @@ fn resized(state: &[u8], length: usize) -> Vec<u8> {
     lent
 }
 
-/// One call with each pair of lengths, and with the part's memory or none; the first one that is not
-/// as it should be.
-pub fn sweep(held: &Held, ask: &Ask) -> Result<(), String> {
-    for length in 0..=40 {
-        for result in (0..=40).filter(|&it| (length, it) != (STATE, RESULT)) {
-            for size in [held.memory.len(), 0] {
-                let mut state = resized(&held.state, length);
-                let mut memory = held.memory[..size].to_vec();
-                let gave = ask.call(&mut state, &mut memory, result);
-                let left = state == resized(&held.state, length) && memory == held.memory[..size];
-                if gave != ask.refused(2, result) || !left {
-                    let lengths = format!("state {length}, result {result}, memory {size}");
-                    return Err(format!("{lengths}: {gave:x?}, nothing changed: {left}"));
-                }
-            }
+/// Lengths of state and result, of which one at least is wrong.
+fn wrong_pairs() -> impl Iterator<Item = (usize, usize)> {
+    let pairs = LENGTHS.flat_map(|state| LENGTHS.map(move |result| (state, result)));
+    pairs.filter(|&pair| pair != (STATE, RESULT))
+}
+
+/// Each call with each of these pairs, without power and under it; the first one that is not as it
+/// should be.
+pub fn every_pair(part: u32) -> Result<(), String> {
+    let asks = asks(&PARTS[part as usize]);
+    for held in models(part) {
+        for ask in &asks {
+            sweep(&held, ask).map_err(|it| format!("part {part}, {ask:x?}: {it}"))?;
+        }
+    }
+    Ok(())
+}
+
+/// One call with each pair, and with the part's memory or none.
+fn sweep(held: &Held, ask: &Ask) -> Result<(), String> {
+    let sizes = [held.memory.len(), 0];
+    for ((length, result), size) in wrong_pairs().flat_map(|pair| sizes.map(|it| (pair, it))) {
+        let state = resized(&held.state, length);
+        let mut memory = held.memory[..size].to_vec();
+        let refused = tried::refused(&state, ask, result, &mut memory);
+        refused.map_err(|it| format!("state {length}, memory {size}: {it}"))?;
+        if memory != held.memory[..size] {
+            return Err(format!("state {length}, result {result}: memory changed"));
+        }
+    }
+    Ok(())
+}
+
+/// The number of a making with a state of this length, if this is its number for part, pins and bits.
+pub fn of_making(number: u8, length: usize) -> u8 {
+    match (number, length) {
+        (0, STATE) => 0,
+        (0, _) => 2,
+        _ => number,
+    }
+}
+
+/// A making into a state of each length, with its number for part, pins and bits: it writes the image of
+/// the twin's model, or leaves the state.
+pub fn every_making(making: Making, number: u8) -> Result<(), String> {
+    let Making { part, pins, bits } = making;
+    let (_, model) = Model::make(part, pins, bits);
+    for length in LENGTHS {
+        let left = match of_making(number, length) {
+            0 => encode(&model).to_vec(),
+            _ => vec![LEFT; length],
+        };
+        let mut state = vec![LEFT; length];
+        let given = archive::make(making, state.as_mut_slice().into());
+        if given != of_making(number, length) || state != left {
+            return Err(format!("{making}, state {length}: {given}, {state:x?}"));
         }
     }
     Ok(())

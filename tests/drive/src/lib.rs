@@ -17,7 +17,9 @@ pub mod loaded;
 pub mod made_up;
 pub mod mixed;
 pub mod more;
+pub mod odd;
 pub mod outcome;
+pub mod phases;
 mod quota;
 pub mod reached;
 pub mod refused;
@@ -27,6 +29,7 @@ mod singly;
 pub mod streams;
 pub mod tally;
 pub mod told;
+pub mod tried;
 
 pub use twin::{Ran, Selected};
 

@@ -1,15 +1,12 @@
 //! Images made up field by field (docs/IMAGE.md), each field mostly 0, in its range or just past it: some
 //! are those of states that no call reaches, and many are none.
 
+use crate::phases::of_bus;
 use twin::gen::Rng;
 use twin::part::Wires;
 use twin::Part;
 
-/// The phases of each bus, and numbers near them that are none.
-const SPI: [u8; 16] = [
-    0x00, 0x01, 0x10, 0x11, 0x12, 0x13, 0x14, 0x15, 0x16, 0x20, 0x21, 0x22, 0x30, 0x31, 0x32, 0x33,
-];
-const I2C: [u8; 7] = [0x00, 0x01, 0x18, 0x19, 0x1a, 0x1b, 0x28];
+/// Numbers near the phases that are none.
 const NONE: [u8; 6] = [0x02, 0x17, 0x1c, 0x23, 0x29, 0x34];
 
 /// A buffer of 32 bytes that is an image, or nearly one.
@@ -55,19 +52,17 @@ fn three(rng: &mut Rng, of: &[u32]) -> [u8; 3] {
 
 /// Mostly that of the part's bus.
 fn power(rng: &mut Rng, part: &Part) -> u8 {
-    let own = match part.wires {
-        Wires::Spi => 1,
-        Wires::I2c => 2,
-    };
+    let (own, _) = of_bus(part.wires);
     rng.pick(&[own, own, own, own, own, own, own, 0, 1, 2, 3])
 }
 
 /// Mostly one of the part's bus.
 fn phase(rng: &mut Rng, part: &Part) -> u8 {
-    let (own, other) = match part.wires {
-        Wires::Spi => (&SPI[..], &I2C[..]),
-        Wires::I2c => (&I2C[..], &SPI[..]),
+    let other = match part.wires {
+        Wires::Spi => Wires::I2c,
+        Wires::I2c => Wires::Spi,
     };
+    let ((_, own), (_, other)) = (of_bus(part.wires), of_bus(other));
     let from = rng.pick(&[own, own, own, own, own, own, other, &NONE]);
     rng.pick(from)
 }

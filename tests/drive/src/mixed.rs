@@ -1,5 +1,5 @@
-//! Calls drawn for one model, one after another: a generated trace as single events and in pieces, what
-//! is refused among them, and selections as bytes wherever they fall.
+//! Calls drawn for one model, one after another: a generated trace as single events, by themselves and
+//! in bursts, and in pieces, what is refused among them, and selections as bytes wherever they fall.
 
 use crate::ask::{Ask, Gave};
 use crate::refused;
@@ -10,6 +10,9 @@ use twin::part::{spi_pin, Wires};
 use twin::trace::events;
 use twin::{Part, PARTS};
 
+/// A burst has fewer single events than this: several commands or transfers.
+const LONGEST: u64 = 600;
+
 pub struct Mixed {
     part: &'static Part,
     pins: u32,
@@ -17,6 +20,8 @@ pub struct Mixed {
     rest: Vec<u8>,
     /// Calls that come before any other.
     queue: VecDeque<Ask>,
+    /// How many single events come next, so that whole commands and transfers go by single events.
+    burst: u64,
 }
 
 impl Mixed {
@@ -26,6 +31,7 @@ impl Mixed {
             pins: making.pins,
             rest: Vec::new(),
             queue: VecDeque::new(),
+            burst: 0,
         }
     }
 
@@ -37,11 +43,19 @@ impl Mixed {
         if self.rest.is_empty() {
             self.refill(rng, powered);
         }
-        match rng.below(20) {
-            0..=8 => self.single(rng),
-            9..=14 => self.piece(rng),
-            15 => run_or_event(rng, |rng| (0..rng.below(8)).map(|_| rng.byte()).collect()),
-            16 => run_or_event(rng, |rng| self.refused(rng)),
+        if self.burst > 0 {
+            self.burst -= 1;
+            return self.single(rng);
+        }
+        match rng.below(80) {
+            0 => {
+                self.burst = rng.below(LONGEST);
+                self.single(rng)
+            }
+            1..=35 => self.single(rng),
+            36..=59 => self.piece(rng),
+            60..=63 => run_or_event(rng, |rng| (0..rng.below(8)).map(|_| rng.byte()).collect()),
+            64..=67 => run_or_event(rng, |rng| self.refused(rng)),
             _ => self.selection(rng),
         }
     }
@@ -123,7 +137,7 @@ impl Mixed {
             Ask::Run { trace, .. } | Ask::Replay { trace, .. } if self.rest.starts_with(trace) => {
                 match gave.number {
                     0 => drop(self.rest.drain(..offset(gave))),
-                    5 if trace.len() > 1 && trace.len() < self.rest.len() => {
+                    5 if trace.len() < self.rest.len() => {
                         drop(self.rest.drain(..offset(gave)));
                     }
                     _ => self.rest.clear(),

@@ -43,6 +43,10 @@ impl Outcome {
 }
 
 pub fn first_difference(what: &str, ours: &[u8], theirs: &[u8]) -> Option<String> {
+    // Mostly so, and told much sooner than byte by byte.
+    if ours == theirs {
+        return None;
+    }
     let at = ours.iter().zip(theirs).position(|(one, two)| one != two)?;
     let (one, two) = (ours[at], theirs[at]);
     Some(format!("{what} {at:#x} is {one:02x} and not {two:02x}"))

@@ -2,14 +2,11 @@
 
 use crate::ask::Ask;
 use crate::held::Held;
+use crate::phases::{PHASE, POWER};
 use crate::Making;
 use std::collections::BTreeMap;
 use twin::gen::{self, Rng};
 use twin::trace::events;
-
-/// Where an image has the kind of power and the phase (docs/IMAGE.md).
-const POWER: usize = 3;
-const PHASE: usize = 7;
 
 /// Traces that are looked through.
 const TRACES: usize = 150;

@@ -21,15 +21,15 @@ impl Call {
         let mut answers = Vec::new();
         let (mut number, mut offset, mut flag) = (0, 0, None);
         for event in events(&self.trace).take(self.quota as usize) {
-            let mut result = [LEFT; RESULT];
-            number = archive::event(event, held.lent(&mut result));
+            let (refusal, answer, flagged) = single(&mut held, event);
+            number = refusal;
             if number != 0 {
                 break;
             }
-            if result[1] == 1 {
+            if flagged {
                 flag.get_or_insert(offset);
             }
-            answers.push(result[0]);
+            answers.push(answer);
             offset += event.len() as u64;
         }
         let flag = flag.unwrap_or(self.trace.len() as u64);
@@ -45,4 +45,15 @@ impl Call {
             result: result_of(self.result, &numbers),
         }
     }
+}
+
+/// One event: its number, answer and flag. The result has nothing else in it, and of a refused event
+/// nothing driven and no flag.
+fn single(held: &mut Held, event: &[u8]) -> (u8, u8, bool) {
+    let mut result = [LEFT; RESULT];
+    let number = archive::event(event, held.lent(&mut result));
+    let [answer, flag, rest @ ..] = result;
+    assert!(flag < 2 && rest == [0; RESULT - 2], "{result:x?}");
+    assert!(number == 0 || (answer, flag) == (2, 0), "{result:x?}");
+    (number, answer, flag == 1)
 }

@@ -1,38 +1,17 @@
 //! Images that no call has left: some states of each phase of each part with each of the 256 values at
 //! each byte, the same with several bytes changed at once, and images made up. The twin's `decode` says
-//! which of them are images. Those that are not are refused with 2, and nothing is changed. Those that
-//! are give what the twin gives on the decoded model, whose image they are.
+//! which of them are images. Those that are not are refused with 2, and nothing is changed, whether or
+//! not the result has its length. Those that are give what the twin gives on the decoded model, and a
+//! run of no events leaves them byte for byte (`drive::tried`).
 
 use drive::ask::Ask;
-use drive::made_up;
-use drive::outcome::RESULT;
-use drive::reached;
 use drive::refused::power_on;
+use drive::tried::{self, Memories};
+use drive::{made_up, phases, reached};
+use std::collections::BTreeSet;
 use twin::gen::{self, Rng};
-use twin::image::{decode, encode};
-use twin::text::first_memory;
+use twin::image::decode;
 use twin::{Model, Part, PARTS};
-
-/// A memory of each part on either side. Both change in the same way, so they are compared in whole
-/// only now and then.
-struct Memories {
-    ours: Vec<Vec<u8>>,
-    theirs: Vec<Vec<u8>>,
-}
-
-impl Memories {
-    fn new() -> Memories {
-        let all: Vec<Vec<u8>> = PARTS.iter().map(|part| first_memory(part.size)).collect();
-        Memories {
-            ours: all.clone(),
-            theirs: all,
-        }
-    }
-
-    fn compare(&self, about: &str) {
-        assert!(self.ours == self.theirs, "memory differs: {about}");
-    }
-}
 
 /// How many changed images were taken, and how many refused.
 #[derive(Debug, Default)]
@@ -73,44 +52,19 @@ fn drawn(part: &Part, rng: &mut Rng) -> [Ask; 4] {
     [Ask::Event(one), run, replay, select]
 }
 
-/// A buffer that is no image: every call is refused with 2, and the state is left. The part is that of
-/// the image before the change.
-fn refused(state: &[u8], part: &Part, rng: &mut Rng, memories: &mut Memories) {
-    for ask in drawn(part, rng) {
-        let mut left = state.to_vec();
-        let memory = &mut memories.ours[part.number as usize];
-        let gave = ask.call(&mut left, memory, RESULT);
-        assert_eq!(gave, ask.refused(2, RESULT), "{state:x?} {ask:x?}");
-        assert_eq!(left, state, "{ask:x?}");
-    }
-}
-
-/// An image: every call gives what the twin gives, and leaves the image of the twin's model.
-fn taken(state: &[u8], model: &Model, rng: &mut Rng, memories: &mut Memories) {
-    assert_eq!(encode(model), state, "another image of the same state");
-    let part = model.part();
-    let drawn = drawn(part, rng).into_iter();
-    for ask in drawn.chain([quiet(model)]) {
-        let (mut left, mut next) = (state.to_vec(), model.clone());
-        let place = part.number as usize;
-        let gave = ask.call(&mut left, &mut memories.ours[place], RESULT);
-        let theirs = ask.twin(&mut next, &mut memories.theirs[place]);
-        assert_eq!(gave, theirs, "{state:x?} {ask:x?}");
-        assert_eq!(left, encode(&next), "{state:x?} {ask:x?}");
-    }
-}
-
+/// Drawn calls on a buffer; the part is that of the image before the change.
 fn check(state: &[u8], part: &Part, rng: &mut Rng, memories: &mut Memories, met: &mut Met) {
-    match decode(state) {
+    let model = decode(state);
+    let mut asks = drawn(model.as_ref().map_or(part, |it| it.part()), rng).to_vec();
+    match &model {
         Some(model) => {
             met.taken += 1;
-            taken(state, &model, rng, memories);
+            asks.push(quiet(model));
         }
-        None => {
-            met.refused += 1;
-            refused(state, part, rng, memories);
-        }
+        None => met.refused += 1,
     }
+    let from = rng.below(4) as usize;
+    tried::each(state, part, &asks, from, memories).unwrap_or_else(|it| panic!("{it}"));
 }
 
 /// Every value at every byte.
@@ -121,7 +75,8 @@ fn each_byte(state: &[u8], part: &Part, rng: &mut Rng, memories: &mut Memories, 
             changed[at] = value;
             check(&changed, part, rng, memories, met);
         }
-        memories.compare(&format!("{state:x?}, byte {at}"));
+        let same = memories.compare();
+        same.unwrap_or_else(|it| panic!("{it}: {state:x?}, byte {at}"));
     }
 }
 
@@ -145,20 +100,30 @@ fn many(part: &Part, rng: &mut Rng, memories: &mut Memories, draw: impl Fn(&mut 
         let drawn = draw(rng);
         check(&drawn, part, rng, memories, &mut met);
     }
-    memories.compare("many drawn images");
+    let same = memories.compare();
+    same.unwrap_or_else(|it| panic!("{it}: many drawn images"));
     assert!(met.taken > 2_000 && met.refused > 2_000, "{met:?}");
 }
 
-/// How many phases a part has, with that of no power.
-const PHASES: [usize; 5] = [13, 17, 14, 8, 8];
+/// The least number of images of each part whose bytes are changed.
+const IMAGES: [usize; 5] = [35, 48, 40, 22, 22];
+
+/// States of every phase that the part can come to.
+fn reached_states(part: &Part) -> Vec<Vec<u8>> {
+    let reached = reached::states(part.number, 3);
+    let phases: BTreeSet<(u8, u8)> = reached.keys().copied().collect();
+    assert_eq!(phases, phases::of_part(part), "part {}", part.number);
+    let states: Vec<Vec<u8>> = reached.into_values().flatten().collect();
+    let least = IMAGES[part.number as usize];
+    assert!(states.len() >= least, "only {} images", states.len());
+    states
+}
 
 fn check_part(part: u32) {
     let mut rng = Rng::new(0xbad + u64::from(part));
     let table = &PARTS[part as usize];
-    let phases = reached::states(part, 3);
-    assert_eq!(phases.len(), PHASES[part as usize], "{:x?}", phases.keys());
-    let states: Vec<Vec<u8>> = phases.into_values().flatten().collect();
-    let (mut memories, mut met) = (Memories::new(), Met::default());
+    let states = reached_states(table);
+    let (mut memories, mut met) = (Memories::first(), Met::default());
     for state in &states {
         each_byte(state, table, &mut rng, &mut memories, &mut met);
     }

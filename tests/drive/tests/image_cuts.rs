@@ -39,6 +39,9 @@ impl Followed {
         let mut copy = self.held.clone();
         let gave = copy.ask(&Ask::Event(vec![3]));
         assert_eq!(gave.number, if self.powered { 0 } else { 7 });
+        // Nothing driven and no flag, whether it is refused or not.
+        let quiet = gave.result[0] == 2 && gave.result[1..].iter().all(|&byte| byte == 0);
+        assert!(quiet, "{:x?}", gave.result);
         let fresh = Making {
             bits: u32::from(self.ledger.bits_after_cut()),
             ..self.making

@@ -1,14 +1,16 @@
 //! Every length of state and result from 0 to 40, for each call but making, without power and under it
 //! (`drive::lengths` has what is to come of it). Then the right lengths: with a memory of another length
-//! the number is 3, and with the part's all is as the twin has it. `tests/refusals.rs` has the lengths
-//! of a making.
+//! the number is 3, in every phase, and with the part's all is as the twin has it. `tests/refusals.rs`
+//! has the lengths of a making.
 
 use drive::ask::Ask;
 use drive::bad::no_sizes;
 use drive::held::Held;
-use drive::lengths::{asks, models, sweep};
+use drive::lengths::{asks, every_pair, models};
 use drive::outcome::RESULT;
+use drive::{phases, reached};
 use twin::image::{decode, encode};
+use twin::text::first_memory;
 use twin::PARTS;
 
 /// A memory of another length, which holds the part's bytes as far as it goes.
@@ -32,15 +34,28 @@ fn right(held: &Held, ask: &Ask) {
 }
 
 fn every_length(part: u32) {
+    every_pair(part).unwrap_or_else(|difference| panic!("{difference}"));
     let table = &PARTS[part as usize];
-    for held in models(part) {
-        for ask in asks(table) {
-            sweep(&held, &ask).unwrap_or_else(|difference| panic!("{difference}: {ask:x?}"));
+    let asks = asks(table);
+    for held in models(part).into_iter().chain(in_every_phase(part)) {
+        for ask in &asks {
             let sizes = no_sizes(table).into_iter();
-            sizes.for_each(|size| other_memory(&held, &ask, size));
-            right(&held, &ask);
+            sizes.for_each(|size| other_memory(&held, ask, size));
+            right(&held, ask);
         }
     }
+}
+
+/// Models of the part in each phase that it can come to.
+fn in_every_phase(part: u32) -> Vec<Held> {
+    let table = &PARTS[part as usize];
+    let reached = reached::states(part, 3);
+    assert!(reached.keys().copied().eq(phases::of_part(table)));
+    let held = |state| Held {
+        state,
+        memory: first_memory(table.size),
+    };
+    reached.into_values().flatten().map(held).collect()
 }
 
 #[test]

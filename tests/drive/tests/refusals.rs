@@ -1,44 +1,30 @@
 //! Bad input and limits: the right number, and nothing changed that must not be.
 
-use drive::archive;
 use drive::ask::Ask;
 use drive::bad::{self, Bad};
 use drive::bad_bytes;
 use drive::held::Held;
 use drive::lengths;
-use drive::outcome::{LEFT, RESULT, STATE};
+use drive::outcome::RESULT;
 use drive::refused;
 use drive::tally::refusals;
-use drive::Making;
 use std::collections::BTreeSet;
 use twin::{Part, PARTS};
-
-/// What a making with a state of this length gives, and what it leaves there.
-fn made(making: Making, length: usize) -> (u8, Vec<u8>) {
-    let mut state = vec![LEFT; length];
-    let number = archive::make(making, state.as_mut_slice().into());
-    (number, state)
-}
 
 /// No such part, pins or bits: 1, which comes before 2, and the state is left as it is.
 #[test]
 fn every_bad_making() {
     for making in bad::no_makings() {
-        for length in 0..=40 {
-            assert_eq!(made(making, length), (1, vec![LEFT; length]), "{making}");
-        }
+        lengths::every_making(making, 1).unwrap_or_else(|difference| panic!("{difference}"));
     }
 }
 
-/// A making that a part can have: 2 for a state of any other length, which is left as it is.
+/// A making that a part can have: the image of the twin's model, and 2 for a state of any other length,
+/// which is left as it is.
 #[test]
-fn every_good_making_with_another_length() {
+fn every_good_making() {
     for making in drive::good_makings() {
-        let (number, state) = made(making, STATE);
-        assert_eq!((number, state), (0, drive::made(making)), "{making}");
-        for length in (0..=40).filter(|&it| it != STATE) {
-            assert_eq!(made(making, length), (2, vec![LEFT; length]), "{making}");
-        }
+        lengths::every_making(making, 0).unwrap_or_else(|difference| panic!("{difference}"));
     }
 }
 

@@ -1,22 +1,26 @@
 //! Some dozens of traces of all parts and of selections as bytes of the SPI parts, some hundreds of drawn
-//! calls on one image of each part, every bad call, one in four of the bad selections, and every length
-//! of state and result on the two smallest parts, compared once: small enough for valgrind, under which
-//! each buffer is lent by itself and with no byte to spare. The drawn calls are made again with nothing
-//! written to what a call must not read.
+//! calls on one image of each part, every bad call, one in four of the bad selections, makings into every
+//! length, every length of state and result on the two smallest parts, and images of every phase with a
+//! byte changed or cut short, compared once: small enough for valgrind, under which each buffer is lent
+//! by itself and with no byte to spare. The drawn calls are made again with nothing written to what a
+//! call must not read, and so are the makings.
 
 use drive::ask::Ask;
 use drive::byte_call::ByteCall;
 use drive::call::Call;
-use drive::held::{Held, Pair};
+use drive::held::Pair;
+use drive::lengths::LENGTHS;
 use drive::mixed::Mixed;
-use drive::{archive, bad, bad_bytes, good_makings, lengths, Making};
+use drive::outcome::STATE;
+use drive::tried::{self, Memories};
+use drive::{archive, bad, bad_bytes, good_makings, lengths, reached, Making};
 use std::fmt::Display;
 use std::process::ExitCode;
 use twin::gen::{self, Rng};
 use twin::PARTS;
 
 /// Drawn calls of each part.
-const DRAWN: usize = 200;
+const DRAWN: usize = 400;
 
 fn main() -> ExitCode {
     let mut rng = Rng::new(0x07ce);
@@ -29,14 +33,16 @@ fn main() -> ExitCode {
         last.expect("a making of each part")
     });
     let drawn = held.all(|it| agree(&it, drawn(it, &mut rng)));
-    let makings = good_makings()
-        .into_iter()
-        .all(|it| agree(&it, made_alike(it)));
-    let lengths = [0, 3].into_iter().all(every_length);
-    if runs && selections && drawn && makings && lengths {
+    let makings = agree(&"makings", makings());
+    let lengths = [0, 3]
+        .iter()
+        .all(|part| agree(part, lengths::every_pair(*part)));
+    let images = (0..5).all(|part| agree(&part, changed_images(part)));
+    if runs && selections && drawn && makings && lengths && images {
         let (runs, selections) = (calls.len(), byte_calls.len());
         println!("once: {runs} runs and {selections} selections as bytes agree, and");
-        println!("{DRAWN} calls on one image of each part, and every length of state and result");
+        println!("{DRAWN} calls on one image of each part, every length of state and result, and");
+        println!("images of every phase, each with a byte changed or cut short");
         ExitCode::SUCCESS
     } else {
         ExitCode::FAILURE
@@ -95,22 +101,41 @@ fn exact(mut ask: Ask) -> Ask {
     ask
 }
 
-/// A making writes the same state to a buffer that was never written.
-fn made_alike(making: Making) -> Result<(), String> {
-    match archive::make_unread(making) {
-        Some(state) if state[..] == Held::new(making).state => Ok(()),
-        state => Err(format!("{state:02x?} in a buffer never written")),
+/// Every making, those that no part can have among them, into a buffer of each length, and into one that
+/// was never written.
+fn makings() -> Result<(), String> {
+    let good = good_makings().into_iter().map(|making| (making, 0));
+    let bad = bad::no_makings().into_iter().map(|making| (making, 1));
+    for (making, number) in good.chain(bad) {
+        lengths::every_making(making, number)?;
+        for length in LENGTHS {
+            let made = archive::make_unread(making, length);
+            let same = match &made {
+                Ok(state) => number == 0 && **state == drive::made(making),
+                Err(refusal) => *refusal == lengths::of_making(number, length),
+            };
+            if !same {
+                return Err(format!("{making}: {made:02x?} in a buffer never written"));
+            }
+        }
     }
+    Ok(())
 }
 
-/// Whether each call is refused with each wrong length.
-fn every_length(part: u32) -> bool {
-    let asks = lengths::asks(&PARTS[part as usize]);
-    let mut each = lengths::models(part).into_iter();
-    each.all(|held| {
-        asks.iter()
-            .all(|ask| agree(&part, lengths::sweep(&held, ask)))
-    })
+/// An image of each phase of a part with each byte changed, which mostly makes it none, and cut to each
+/// shorter length.
+fn changed_images(part: u32) -> Result<(), String> {
+    let table = &PARTS[part as usize];
+    let (asks, mut memories) = (lengths::asks(table), Memories::first());
+    for state in reached::states(part, 1).into_values().flatten() {
+        for at in 0..STATE {
+            let mut changed = state.clone();
+            changed[at] ^= 0x80;
+            tried::each(&changed, table, &asks, at, &mut memories)?;
+            tried::each(&state[..at], table, &asks, at, &mut memories)?;
+        }
+    }
+    memories.compare()
 }
 
 /// Prints the call if it gave a difference.
