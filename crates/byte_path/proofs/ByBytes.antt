@@ -25,13 +25,14 @@ use Rattle.selection.specs.declared.opcode.Command.the-variants.{WREN, WRDI, RD
 use Rattle.selection.specs.declared.phase.Field.{Field}
 use Rattle.selection.specs.declared.phase.Field.the-variants.{Opcode, ReadAddress, FastAddress, WriteAddress, Dummy, Data, StatusByte}
 use Rattle.selection.specs.declared.phase.Phase.{Phase}
-use Rattle.selection.specs.declared.phase.Phase.the-variants.{Rest, Ignoring, Taking, Showing, Waiting}
+use Rattle.selection.specs.declared.phase.Phase.the-variants.{Rest, Ignoring, Taking, Showing, Waiting, Pending}
 use Rattle.selection.specs.Opcode.{commandOf}
-use Rattle.selection.specs.Phase.{width, phaseAfterOpcode, phaseAfterField}
+use Rattle.selection.specs.Phase.{width, phaseAfterOpcode, dataAfter, phaseAfterField}
 use Rattle.spi_status.specs.Deselect.{statusAfter, asleepAfter}
 use Rattle.spi.specs.declared.sample.Spi.{Spi}
 use Rattle.spi.specs.Sample.{selected, stepOf}
 use Rattle.spi.specs.Show.{afterFall}
+use Rattle.spi.specs.Store.{endWrite}
 use Rattle.chip.specs.declared.model.BusState.the-variants.{SpiOn}
 use Rattle.chip.specs.declared.model.Model.{Model}
 use Rattle.chip.specs.Model.{modelOf}
@@ -56,14 +57,22 @@ module _ (p : Part) (wide : 0 < p .width) where
   opcode-border SLEEP = tt
   opcode-border Unknown = tt
 
-  field-border : (f : Field) (v : ℕ) → AtBorder p (phaseAfterField p f v)
-  field-border Opcode v = opcode-border (commandOf p v)
-  field-border ReadAddress v = refl
-  field-border FastAddress v = (refl, omega arith, omega arith)
-  field-border WriteAddress v = (refl, omega arith, omega arith)
-  field-border (Dummy a) v = refl
-  field-border (Data a y) v = (refl, omega arith, omega arith)
-  field-border StatusByte v = tt
+  -- a whole field, of which n bits made w before its last byte v
+  field-border : (f : Field) (n w v : ℕ) → v < 256 → n % 8 ≡ 0 → n < width p f → w < 2 ^ n → AtBorder p (phaseAfterField p f (256 * w + v))
+  field-border Opcode n w v h q l r = opcode-border (commandOf p (256 * w + v))
+  field-border ReadAddress n w v h q l r = refl
+  field-border FastAddress n w v h q l r = (refl, omega arith, omega arith)
+  field-border WriteAddress n w v h q l r = (refl, omega arith, omega arith)
+  field-border (Dummy a) n w v h q l r = refl
+  field-border (Data a y) n w v h q l r = by (p .late) refl
+    where
+      by : (t : Bool) → p .late ≡ t → AtBorder p (cond t (Pending (256 * w + v) a) (Taking (dataAfter p a) 0 0))
+      by true late =
+          let e : n ≡ 0 = omega arith in
+          let k : w < 2 ^ 0 = rw e at r in
+          (late, omega arith)
+      by false late = (refl, omega arith, omega arith)
+  field-border StatusByte n w v h q l r = tt
 
   pub eight-more : (n : ℕ) → 2 ^ (n + 8) ≡ 256 * 2 ^ n
   eight-more n =
@@ -85,9 +94,10 @@ module _ (p : Part) (wide : 0 < p .width) where
     where
       by : (t : Bool) → ltb (n + 8) (width p f) ≡ t → AtBorder p (cond t (Taking f (n + 8) (256 * w + v)) (phaseAfterField p f (256 * w + v)))
       by true e = (omega arith, ltb-true (n + 8) (width p f) e, rw (eight-more n) (omega arith))
-      by false e = field-border f (256 * w + v)
+      by false e = field-border f n w v h q l r
   byte-border (Showing s k) v h b = refl
   byte-border (Waiting a) v h b = tt
+  byte-border (Pending w a) v h b = (b .0, h)
 
 -- ---- bytes stay bytes
 
@@ -106,18 +116,24 @@ permitted-bytes : (t : Bool) (a v : ℕ) (m : List ℕ) → AllBytes m → v < 2
 permitted-bytes true a v m fits h = set-bytes m a v fits h
 permitted-bytes false a v m fits h = fits
 
-write-bytes : (p : Part) (st : Status) (ph : Phase) (v : ℕ) (m : List ℕ) → AllBytes m → v < 256 → AllBytes (applied (byteWrite p st ph v) m)
-write-bytes p st Rest v m fits h = fits
-write-bytes p st Ignoring v m fits h = fits
-write-bytes p st (Taking Opcode n w) v m fits h = fits
-write-bytes p st (Taking ReadAddress n w) v m fits h = fits
-write-bytes p st (Taking FastAddress n w) v m fits h = fits
-write-bytes p st (Taking WriteAddress n w) v m fits h = fits
-write-bytes p st (Taking (Dummy a) n w) v m fits h = fits
-write-bytes p st (Taking (Data a y) n w) v m fits h = permitted-bytes (st .wel && ltb a (protectedStart st p)) a v m fits h
-write-bytes p st (Taking StatusByte n w) v m fits h = fits
-write-bytes p st (Showing s k) v m fits h = fits
-write-bytes p st (Waiting a) v m fits h = fits
+-- what is written as a byte ends: nothing on a part that stores late (y)
+finished-bytes : (y t : Bool) (a v : ℕ) (m : List ℕ) → AllBytes m → v < 256 → AllBytes (applied (cond y Nothing (cond t (Byte a v) Nothing)) m)
+finished-bytes true t a v m fits h = fits
+finished-bytes false t a v m fits h = permitted-bytes t a v m fits h
+
+write-bytes : (p : Part) (st : Status) (ph : Phase) (v : ℕ) (m : List ℕ) → AtBorder p ph → AllBytes m → v < 256 → AllBytes (applied (byteWrite p st ph v) m)
+write-bytes p st Rest v m b fits h = fits
+write-bytes p st Ignoring v m b fits h = fits
+write-bytes p st (Taking Opcode n w) v m b fits h = fits
+write-bytes p st (Taking ReadAddress n w) v m b fits h = fits
+write-bytes p st (Taking FastAddress n w) v m b fits h = fits
+write-bytes p st (Taking WriteAddress n w) v m b fits h = fits
+write-bytes p st (Taking (Dummy a) n w) v m b fits h = fits
+write-bytes p st (Taking (Data a y) n w) v m b fits h = finished-bytes (p .late) (st .wel && ltb a (protectedStart st p)) a v m fits h
+write-bytes p st (Taking StatusByte n w) v m b fits h = fits
+write-bytes p st (Showing s k) v m b fits h = fits
+write-bytes p st (Waiting a) v m b fits h = fits
+write-bytes p st (Pending w a) v m b fits h = permitted-bytes (st .wel && ltb a (protectedStart st p)) a w m fits (b .1)
 
 -- ---- any bytes
 
@@ -145,7 +161,7 @@ module _ (part pins : ℕ) (st : Status) (z wp : Bool) (wide : 0 < partOf part .
   bytes-taken [] ph m si hs b fits = refl
   bytes-taken (v ∷ vs) ph m si (h, hs) b fits =
       ap (λ (a : Pins). bytesTaken wp a vs) (byte-taken v ph m si h b fits)
-      ∙ bytes-taken vs (phaseAfterByte row ph v) (applied (byteWrite row st ph v) m) (bitAt v 7) hs (byte-border row wide ph v h b) (write-bytes row st ph v m fits h)
+      ∙ bytes-taken vs (phaseAfterByte row ph v) (applied (byteWrite row st ph v) m) (bitAt v 7) hs (byte-border row wide ph v h b) (write-bytes row st ph v m b fits h)
 
   pub bytes-back : (vs : List ℕ) (ph : Phase) (m : List ℕ) (si : Bool) → EachByte vs → AtBorder row ph → AllBytes m
       → bytesBack wp (at ph m si) vs ≡ backAfterBytes row st ph m vs
@@ -154,7 +170,7 @@ module _ (part pins : ℕ) (st : Status) (z wp : Bool) (wide : 0 < partOf part .
       ap (λ (x : Back). x ∷ bytesBack wp (clockedAll wp (at ph m si) (bitsOf v)) vs) (byte-back v ph m si h b fits)
       ∙ ap (λ (a : Pins). byteBack row st m ph ∷ bytesBack wp a vs) (byte-taken v ph m si h b fits)
       ∙ ap (λ (l : List Back). byteBack row st m ph ∷ l)
-      (bytes-back vs (phaseAfterByte row ph v) (applied (byteWrite row st ph v) m) (bitAt v 7) hs (byte-border row wide ph v h b) (write-bytes row st ph v m fits h))
+      (bytes-back vs (phaseAfterByte row ph v) (applied (byteWrite row st ph v) m) (bitAt v 7) hs (byte-border row wide ph v h b) (write-bytes row st ph v m b fits h))
 
 -- ---- the whole selection
 
@@ -184,7 +200,7 @@ module _ (part pins : ℕ) (st : Status) (x : Spi) (m : List ℕ) (wp : Bool) wh
       → sampled (Pin.selected part pins st z wp ph n si) (sampleOf true false si wp)
       ≡ record {
         model = modelOf part pins (statusAfter st wp ph) (SpiOn (record { last = endLevels si wp; asleep = asleepAfter z ph; shown = HighZ; phase = Rest }));
-        memory = n;
+        memory = applied (endWrite (partOf part) st ph) n;
         answer = 2;
       }
   unfolding stepOf

@@ -20,7 +20,7 @@ use Rattle.serial.proofs.BitLaws.{bit-small}
 use Rattle.selection.specs.declared.phase.Field.{Field}
 use Rattle.selection.specs.declared.phase.Field.the-variants.{Opcode, ReadAddress, FastAddress, WriteAddress, Dummy, Data, StatusByte}
 use Rattle.selection.specs.declared.phase.Phase.{Phase}
-use Rattle.selection.specs.declared.phase.Phase.the-variants.{Rest, Ignoring, Taking, Showing, Waiting}
+use Rattle.selection.specs.declared.phase.Phase.the-variants.{Rest, Ignoring, Taking, Showing, Waiting, Pending}
 use Rattle.selection.specs.declared.phase.Source.{Source}
 use Rattle.selection.specs.declared.phase.Source.the-variants.{Memory, Register, Identity}
 use Rattle.selection.specs.Phase.{width, phaseAfterField, nextSource}
@@ -151,7 +151,11 @@ module _ (part pins : ℕ) (st : Status) (z wp : Bool) where
   -- ---- each phase
 
   whole-data : (a : ℕ) (y : Bool) (v : ℕ) (m : List ℕ) → v < 256 → Stepped (Taking (Data a y) 0 0) m v (bitsOf v)
-  whole-data a y v m h = record { phase = refl; memory = rw (byte-bits v h); back = refl }
+  whole-data a y v m h = record { phase = rw (eight-bits 0 v h); memory = rw (byte-bits v h); back = refl }
+
+  -- after one that waits: the first bit stores it, the last leaves the next one waiting
+  whole-next : (a w v : ℕ) (m : List ℕ) → row .late ≡ true → v < 256 → Stepped (Pending w a) m v (bitsOf v)
+  whole-next a w v m late h = record { phase = rw (late, byte-bits v h); memory = rw late; back = refl }
 
   shown-stepped : AllBytes (row .identity) → (s : Source) (v : ℕ) (m : List ℕ) → AllBytes m → Stepped (Showing s 0) m v (bitsOf v)
   shown-stepped bytes s v m fits = record { phase = refl; memory = refl; back = by s }
@@ -185,6 +189,7 @@ module _ (part pins : ℕ) (st : Status) (z wp : Bool) where
     byte-stepped Rest m v b fits h = record { phase = refl; memory = refl; back = refl }
     byte-stepped Ignoring m v b fits h = record { phase = refl; memory = refl; back = refl }
     byte-stepped (Waiting a) m v b fits h = record { phase = refl; memory = refl; back = refl }
+    byte-stepped (Pending w a) m v (late, small) fits h = whole-next a w v m late h
     byte-stepped (Showing s k) m v b fits h = rw b (shown-stepped bytes s v m fits)
     byte-stepped (Taking Opcode n w) m v (q, l, r) fits h = field-stepped Opcode (λ k u x. refl) (λ u. refl) n w v m h (omega arith)
     byte-stepped (Taking ReadAddress n w) m v (q, l, r) fits h = field-stepped ReadAddress (λ k u x. refl) (λ u. refl) n w v m h (omega arith)

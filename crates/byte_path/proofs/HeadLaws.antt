@@ -13,11 +13,12 @@ use lib.Seq.{drop-cons, drop-nil}
 use borrow.Author.Tests.{ltb-true}
 use Rattle.parts.specs.declared.part.Part.{Part}
 use Rattle.parts.specs.Table.{Fit}
+use Rattle.serial.proofs.AddressLaws.{next-within}
 use Rattle.serial.proofs.BitLaws.{small}
 use Rattle.selection.specs.declared.phase.Field.{Field}
 use Rattle.selection.specs.declared.phase.Field.the-variants.{Opcode, ReadAddress, FastAddress, WriteAddress, Dummy, Data, StatusByte}
 use Rattle.selection.specs.declared.phase.Phase.{Phase}
-use Rattle.selection.specs.declared.phase.Phase.the-variants.{Rest, Ignoring, Taking, Showing, Waiting}
+use Rattle.selection.specs.declared.phase.Phase.the-variants.{Rest, Ignoring, Taking, Showing, Waiting, Pending}
 use Rattle.selection.specs.Phase.{width, phaseAfterField}
 use Rattle.selection.specs.Ranges.{FieldIn, TakingIn, PhaseIn}
 use Rattle.spi.proofs.Keeps.{after-field-in, next-source-in}
@@ -81,6 +82,7 @@ module _ (p : Part) where
       by false e = after-field-in p (b .fit) f (256 * w + v) (b .inside .field)
   inside-next (Showing s k) v h b = record { source = next-source-in p (b .fit) s (b .inside .source); bit = omega arith }
   inside-next (Waiting a) v h b = tt
+  inside-next (Pending w a) v h b = record { late = b .inside .late; address = next-within (p .size) a (b .fit .positive) }
 
   pub bordered-next : (ph : Phase) (v : ℕ) → v < 256 → Bordered p ph → Bordered p (phaseAfterByte p ph v)
   bordered-next ph v h b =

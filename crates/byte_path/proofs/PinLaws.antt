@@ -14,7 +14,7 @@ use Rattle.parts.specs.Table.{partOf}
 use Rattle.serial.specs.Write.{applied}
 use Rattle.selection.specs.declared.levels.Levels.{Levels}
 use Rattle.selection.specs.declared.phase.Phase.{Phase}
-use Rattle.selection.specs.declared.phase.Phase.the-variants.{Rest, Ignoring, Taking, Showing, Waiting}
+use Rattle.selection.specs.declared.phase.Phase.the-variants.{Rest, Ignoring, Taking, Showing, Waiting, Pending}
 use Rattle.selection.specs.Levels.{levelsOf}
 use Rattle.selection.specs.Phase.{nextSource, afterRise}
 use Rattle.selection.proofs.LevelLaws.{levels-back}
@@ -79,6 +79,7 @@ module _ (part pins : ℕ) where
         by true = refl
         by false = refl
     shown-next (Waiting a) m n b = refl
+    shown-next (Pending v a) m n b = refl
 
     -- after the rise
     abbrev raised : Phase → List ℕ → Bool → Pins

@@ -8,7 +8,7 @@ use Rattle.parts.specs.Table.{Fit}
 use Rattle.selection.specs.declared.phase.Field.{Field}
 use Rattle.selection.specs.declared.phase.Field.the-variants.{Opcode, ReadAddress, FastAddress, WriteAddress, Dummy, Data, StatusByte}
 use Rattle.selection.specs.declared.phase.Phase.{Phase}
-use Rattle.selection.specs.declared.phase.Phase.the-variants.{Rest, Ignoring, Taking, Showing, Waiting}
+use Rattle.selection.specs.declared.phase.Phase.the-variants.{Rest, Ignoring, Taking, Showing, Waiting, Pending}
 use Rattle.selection.specs.Ranges.{PhaseIn}
 use Rattle.byte_path.specs.declared.head.Head.{Head}
 use Rattle.byte_path.specs.ByBytes.{AtBorder, phaseAfterByte}
@@ -29,6 +29,7 @@ isHead Ignoring = false
 isHead (Taking f n v) = headField f
 isHead (Showing s k) = false
 isHead (Waiting a) = false
+isHead (Pending w a) = false
 
 -- n bytes more before it
 abbrev pub ahead : ℕ → Head → Head

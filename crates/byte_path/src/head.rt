@@ -51,6 +51,10 @@ fn is_head(phase: Phase) -> bool
         } => head_field(field),
         Phase::Showing { source: _, bit: _ } => false,
         Phase::Waiting { action: _ } => false,
+        Phase::Pending {
+            address: _,
+            byte: _,
+        } => false,
     }
 }
 
@@ -115,9 +119,13 @@ fn after_byte(part: Part, phase: Phase, byte: u8) -> Phase
             count,
             value,
         } => field_after(part, field, count, value, byte),
-        // impossible: what is shown takes no byte of a head
+        // impossible: neither what is shown nor a data byte that waits takes a byte of a head
         Phase::Showing { source: _, bit: _ } => phase,
         Phase::Waiting { action: _ } => phase,
+        Phase::Pending {
+            address: _,
+            byte: _,
+        } => phase,
     }
 }
 

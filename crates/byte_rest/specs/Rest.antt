@@ -12,7 +12,7 @@ use Rattle.rolled_write.specs.Written.{writtenFrom}
 use Rattle.selection.specs.declared.phase.Field.{Field}
 use Rattle.selection.specs.declared.phase.Field.the-variants.{Opcode, ReadAddress, FastAddress, WriteAddress, Dummy, Data, StatusByte}
 use Rattle.selection.specs.declared.phase.Phase.{Phase}
-use Rattle.selection.specs.declared.phase.Phase.the-variants.{Rest, Ignoring, Taking, Showing, Waiting}
+use Rattle.selection.specs.declared.phase.Phase.the-variants.{Rest, Ignoring, Taking, Showing, Waiting, Pending}
 use Rattle.selection.specs.declared.phase.Source.{Source}
 use Rattle.selection.specs.Phase.{nextSource}
 use Rattle.spi_status.specs.Deselect.{statusAfter, asleepAfter}
@@ -33,13 +33,14 @@ restBack p st m Ignoring n = replicate n undriven
 restBack p st m (Taking f k v) n = replicate n undriven
 restBack p st m (Showing s k) n = shownFrom p st m s n
 restBack p st m (Waiting a) n = replicate n undriven
+restBack p st m (Pending w a) n = replicate n undriven
 
 -- an identity from byte number i on; past its third byte nothing is driven
 abbrev pub identityFrom : List ℕ → ℕ → ℕ → List ℕ
 identityFrom id i zero = []
 identityFrom id i (suc n) = cond (ltb i 3) (getD id i 0) 255 ∷ identityFrom id (cond (ltb i 3) (i + 1) i) n
 
--- data bytes of WRITE are stored if WEL is set
+-- data bytes of WRITE are stored if WEL is set: all of them, since CS# rises after the last
 abbrev pub fieldMemory : Part → Status → List ℕ → Field → List ℕ → List ℕ
 fieldMemory p st m Opcode vs = m
 fieldMemory p st m ReadAddress vs = m
@@ -55,6 +56,8 @@ restMemory p st m Ignoring vs = m
 restMemory p st m (Taking f k v) vs = fieldMemory p st m f vs
 restMemory p st m (Showing s k) vs = m
 restMemory p st m (Waiting a) vs = m
+-- impossible: no head ends with a data byte that waits
+restMemory p st m (Pending w a) vs = m
 
 -- for what CS# rising does it only counts whether WRITE had a data byte
 abbrev pub fieldEnd : Field → Bool → Field
@@ -72,6 +75,7 @@ phaseEnd Ignoring some = Ignoring
 phaseEnd (Taking f n v) some = Taking (fieldEnd f some) n v
 phaseEnd (Showing s k) some = Showing s k
 phaseEnd (Waiting a) some = Waiting a
+phaseEnd (Pending w a) some = Pending w a
 
 -- the state after CS# has risen in a phase
 abbrev pub endedModel : Model → Bool → Bool → Phase → Bool → Model

@@ -117,6 +117,10 @@ pub fn show(
             from,
         ),
         Phase::Waiting { action: _ } => quiet(output),
+        Phase::Pending {
+            address: _,
+            byte: _,
+        } => quiet(output),
     }
 }
 
@@ -179,6 +183,11 @@ pub fn store(part: Part, status: Status, phase: Phase, input: &[u8], from: usize
         } => store_field(part, status, field, input, from, memory),
         Phase::Showing { source: _, bit: _ } => {}
         Phase::Waiting { action: _ } => {}
+        // impossible: no head ends with a data byte that waits
+        Phase::Pending {
+            address: _,
+            byte: _,
+        } => {}
     }
 }
 
@@ -223,5 +232,9 @@ pub fn end_phase(phase: Phase, some: bool) -> Phase
         },
         Phase::Showing { source: _, bit: _ } => phase,
         Phase::Waiting { action: _ } => phase,
+        Phase::Pending {
+            address: _,
+            byte: _,
+        } => phase,
     }
 }

@@ -70,6 +70,7 @@ module _ (p : Part) (fit : Fit p) where
   spi-small (Spi.Waiting ClearLatch) h = record { value = omega arith; address = omega arith }
   spi-small (Spi.Waiting FallAsleep) h = record { value = omega arith; address = omega arith }
   spi-small (Spi.Waiting (WriteStatus v)) h = record { value = omega arith; address = omega arith }
+  spi-small (Spi.Pending v a) h = let s : a < p .size = h .address in record { value = omega arith; address = omega (arith, fit .small) }
 
   -- ---- I2C
 

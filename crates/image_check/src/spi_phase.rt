@@ -70,6 +70,23 @@ fn status_byte(phase: PhaseFields) -> bool
     }
 }
 
+// A data byte waits, which may be any, on a part that stores late.
+fn pending(part: Part, phase: PhaseFields) -> bool
+    ensures { λ r. ⌜ r ≡ ((eqb (phase .count) 0 && eqb (phase .value) 0) && (part .late && ltb (phase .address) (part .size))) ⌝ }
+{
+    if phase.count != 0 {
+        return false;
+    }
+    if phase.value != 0 {
+        return false;
+    }
+    if part.late {
+        phase.address < part.size
+    } else {
+        false
+    }
+}
+
 pub fn takes(part: Part, phase: PhaseFields) -> bool
     requires { ⌜ Fit part ⌝ }
     ensures { λ r. ⌜ r ≡ (samePhase (fieldsOf (phaseIn phase)) phase && Ranges.phaseIn part (phaseIn phase)) ⌝ }
@@ -92,6 +109,7 @@ pub fn takes(part: Part, phase: PhaseFields) -> bool
         0x31 => crate::phase::bare(phase),
         0x32 => crate::phase::bare(phase),
         0x33 => status_byte(phase),
+        0x34 => pending(part, phase),
         _ => false,
     }
 }

@@ -108,6 +108,7 @@ spi-phase-back Spi.Ignoring = refl
 spi-phase-back (Spi.Taking f n v) = taking-back f n v
 spi-phase-back (Spi.Showing s k) = showing-back s k
 spi-phase-back (Spi.Waiting a) = waiting-back a
+spi-phase-back (Spi.Pending v a) = refl
 
 byte-back : (f : I2cField.Field) (n v : ℕ) → I2cPhase.phaseIn (I2cPhase.takingFields f n v) ≡ I2c.Taking f n v
 unfolding I2cPhase.phaseIn

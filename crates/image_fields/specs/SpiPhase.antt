@@ -1,5 +1,5 @@
 -- The phase of an SPI part as fields. The tag's first digit tells what the part does: 1 takes bits in, 2 shows them, 3 waits for CS# to
--- rise.
+-- rise, and with a data byte yet to be stored for that or the next bit.
 use Prim.Native.Nat.{ℕ}
 use mathlib.Core.Bool.{cond}
 use lib.Dec.{eqb}
@@ -11,7 +11,7 @@ use Rattle.selection.specs.declared.phase.Source.the-variants.{Memory, Register
 use Rattle.selection.specs.declared.phase.Action.{Action}
 use Rattle.selection.specs.declared.phase.Action.the-variants.{SetLatch, ClearLatch, FallAsleep, WriteStatus}
 use Rattle.selection.specs.declared.phase.Phase.{Phase}
-use Rattle.selection.specs.declared.phase.Phase.the-variants.{Rest, Ignoring, Taking, Showing, Waiting}
+use Rattle.selection.specs.declared.phase.Phase.the-variants.{Rest, Ignoring, Taking, Showing, Waiting, Pending}
 use Rattle.image_fields.specs.declared.fields.PhaseFields.{PhaseFields}
 use Rattle.image_fields.specs.Fields.{phaseFields, onlyTag}
 
@@ -45,6 +45,7 @@ fieldsOf Ignoring = onlyTag 0x01
 fieldsOf (Taking f n v) = takingFields f n v
 fieldsOf (Showing s k) = showingFields s k
 fieldsOf (Waiting a) = waitingFields a
+fieldsOf (Pending v a) = phaseFields 0x34 0 0 a v
 
 -- ---- and back
 
@@ -72,4 +73,5 @@ phaseIn x =
     (cond (eqb (x .tag) 0x30) (Waiting SetLatch)
     (cond (eqb (x .tag) 0x31) (Waiting ClearLatch)
     (cond (eqb (x .tag) 0x32) (Waiting FallAsleep)
-    (cond (eqb (x .tag) 0x33) (Waiting (WriteStatus (x .detail))) Rest)))))))))))))))
+    (cond (eqb (x .tag) 0x33) (Waiting (WriteStatus (x .detail)))
+    (cond (eqb (x .tag) 0x34) (Pending (x .detail) (x .address)) Rest))))))))))))))))

@@ -57,6 +57,7 @@ pub fn fields_of(phase: Phase) -> PhaseFields
         } => taking_fields(field, count, value),
         Phase::Showing { source, bit } => showing_fields(source, bit),
         Phase::Waiting { action } => waiting_fields(action),
+        Phase::Pending { address, byte } => crate::fields::with_numbers(0x34, 0, 0, address, byte),
     }
 }
 
@@ -109,6 +110,10 @@ pub fn phase_in(fields: PhaseFields) -> Phase
         0x31 => selection::rise::waiting(Action::ClearLatch),
         0x32 => selection::rise::waiting(Action::FallAsleep),
         0x33 => selection::rise::waiting(Action::WriteStatus { byte: detail }),
+        0x34 => Phase::Pending {
+            address,
+            byte: detail,
+        },
         _ => Phase::Rest,
     }
 }

@@ -97,11 +97,15 @@ module _ (p : Part) (f : Fields) (x : ℕ) (m : List ℕ) (pre : Asked p f x m) 
         → Gives f m x r
     select k eg er = as-fields (advance Select (seen k)) refl (sym (same .status)) refl (sym (same .asleep)) refl (done-is er eg)
 
+    -- no data byte waits
     pub deselect : {g : Fields} {r : Stepped} → e ≡ Deselect
+        → f .phase .tag < 0x34
         → g ≡ spiMoved f x (statusByte (statusAfter (statusIn (f .status)) (l .wp) (SpiPhase.phaseIn (f .phase)))) 2 (bit (asleepAfter (eqb (f .asleep) 1) (SpiPhase.phaseIn (f .phase)))) (onlyTag 0)
         → r ≡ spiDone g l flag
         → Gives f m x r
-    deselect k eg er = as-fields (advance Deselect (seen k)) refl refl refl refl refl (done-is er (eg ∙ rw el))
+    deselect k h eg er =
+        as-fields (advance Deselect (seen k)) (Bits.end-unwritten p (statusIn (f .status)) (f .phase) (same .phase) h) refl refl refl refl
+        (done-is er (eg ∙ rw el))
 
     pub fall : {g : Fields} {r : Stepped} → e ≡ Fall
         → g ≡ spiMoved f x (f .status) (answerNumber (afterFall p (statusIn (f .status)) m (SpiPhase.phaseIn (f .phase)) (answerIn (f .driven)))) (f .asleep) (f .phase)

@@ -7,9 +7,10 @@ use Rattle.serial.specs.Bits.{shifted}
 use Rattle.image_fields.specs.declared.fields.PhaseFields.{PhaseFields}
 use Rattle.image_fields.specs.Fields.{phaseFields}
 
--- how many bits of an SPI part's phase come before the last one, by its tag; for a phase without bits any number does
+-- how many bits of an SPI part's phase come before the last one, by its tag; for a phase without bits any number does, but none if a data
+-- byte waits
 abbrev pub earlyAt : Part → ℕ → ℕ
-earlyAt p tag = cond (ltb tag 0x11) 7 (cond (ltb tag 0x14) (p .width - 1) 7)
+earlyAt p tag = cond (ltb tag 0x11) 7 (cond (ltb tag 0x14) (p .width - 1) (cond (ltb tag 0x34) 7 0))
 
 -- one bit is counted, and the number that the bits make is v
 abbrev pub counted : PhaseFields → ℕ → PhaseFields

@@ -62,7 +62,8 @@ fn done(fields: Fields, now: Levels, flag: bool) -> Stepped
     }
 }
 
-// How many bits come before the last one, by a phase's tag. Any number does for a phase without bits, since no rise changes it.
+// How many bits come before the last one, by a phase's tag. Any number does for a phase without bits, since no rise changes it; but none if
+// a data byte waits, since a rise stores it.
 fn early(part: Part, tag: u8) -> u8
     requires { ⌜ Fit part ⌝ }
     ensures { λ r. ⌜ r ≡ earlyAt part tag ⌝ }
@@ -70,7 +71,10 @@ fn early(part: Part, tag: u8) -> u8
     if tag < 0x11 {
         return 7;
     }
-    if tag < 0x14 { part.width - 1 } else { 7 }
+    if tag < 0x14 {
+        return part.width - 1;
+    }
+    if tag < 0x34 { 7 } else { 0 }
 }
 
 // CS# falls.
@@ -139,7 +143,14 @@ pub fn spi_sample(part: Part, fields: Fields, sample: u8, memory: &[u8]) -> Step
     let flag = selection::flag::flag_of(before, levels);
     match selection::edge::edge_of(before, levels) {
         Edge::Select => done(select(fields, sample), levels, flag),
-        Edge::Deselect => done(deselect(fields, sample, levels.wp), levels, flag),
+        Edge::Deselect => {
+            let phase = fields.phase;
+            if phase.tag < 0x34 {
+                done(deselect(fields, sample, levels.wp), levels, flag)
+            } else {
+                crate::stepped::undone(fields)
+            }
+        }
         Edge::Rise { si } => {
             let phase = fields.phase;
             if phase.count < early(part, phase.tag) {

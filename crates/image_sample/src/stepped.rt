@@ -11,7 +11,7 @@ pub struct Stepped {
     pub flag: bool,
 }
 
-// A rise that makes a field or byte whole is taken elsewhere, since it may store.
+// A rise that makes a field or byte whole is taken elsewhere, since it may store; so is what ends the waiting of a data byte.
 pub fn undone(fields: Fields) -> Stepped
     ensures { λ r. ⌜ r .done ≡ false ⌝ }
 {

@@ -1,6 +1,7 @@
 pub mod Folds
 pub mod StoreLaws
 pub mod GroupLaws
+pub mod Followed
 pub mod WordLaws
 pub mod SpiReads
 pub mod SpiFits

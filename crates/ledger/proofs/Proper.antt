@@ -22,7 +22,7 @@ use Rattle.ledger.specs.Groups.{Group, groups}
 use Rattle.ledger.specs.Bits.{numberAfter, number, FieldBits, short, whole, field, eightBits, bytes}
 use Rattle.ledger.specs.Stores.{Store, lastAt, stored}
 use Rattle.ledger.specs.Word.{wordIn, addressAfter}
-use Rattle.ledger.specs.SpiLedger.{Item, powerOn, powerOff, selection, Reading, partial, command, reading, afterAddress, addressIn, dataAddress, dataBytes, enabled, SavedBits, register, bits, placed, stores, writes}
+use Rattle.ledger.specs.SpiLedger.{End, Item, powerOn, powerOff, selection, Reading, partial, command, reading, afterAddress, addressIn, followedBits, dataAddress, dataBytes, enabled, SavedBits, register, bits, placed, stores, writes}
 use Rattle.ledger.specs.I2cLedger as I2c
 use Rattle.ledger.specs.I2cLedger.{Byte, value, idle, span}
 use Rattle.ledger.proofs.GroupLaws.{Fronts, fronts}
@@ -116,26 +116,27 @@ module _ (p : Part) (positive : 0 < p .size) where
     address-below (short xs) = positive
     address-below (whole xs rest) = mod-lt (number xs) positive
 
-    stores-proper : (b : SavedBits) (r : Reading) → AllProper (p .size) (stores p b r)
-    stores-proper b partial = tt
-    stores-proper b (command WREN rest) = tt
-    stores-proper b (command WRDI rest) = tt
-    stores-proper b (command RDSR rest) = tt
-    stores-proper b (command WRSR rest) = tt
-    stores-proper b (command READ rest) = tt
-    stores-proper b (command WRITE rest) =
-        placed-proper b (dataBytes p rest) (dataAddress p rest) (address-below (field (p .width) rest)) (all-bytes (afterAddress (field (p .width) rest)))
-    stores-proper b (command FSTRD rest) = tt
-    stores-proper b (command RDID rest) = tt
-    stores-proper b (command SLEEP rest) = tt
-    stores-proper b (command Unknown rest) = tt
+    stores-proper : (b : SavedBits) (x : End) (r : Reading) → AllProper (p .size) (stores p b x r)
+    stores-proper b x partial = tt
+    stores-proper b x (command WREN rest) = tt
+    stores-proper b x (command WRDI rest) = tt
+    stores-proper b x (command RDSR rest) = tt
+    stores-proper b x (command WRSR rest) = tt
+    stores-proper b x (command READ rest) = tt
+    stores-proper b x (command WRITE rest) =
+        let f = field (p .width) rest in
+        placed-proper b (dataBytes p x rest) (dataAddress p rest) (address-below f) (all-bytes (followedBits p x (afterAddress f)))
+    stores-proper b x (command FSTRD rest) = tt
+    stores-proper b x (command RDID rest) = tt
+    stores-proper b x (command SLEEP rest) = tt
+    stores-proper b x (command Unknown rest) = tt
 
     pub spi-proper : (is : List Item) → AllProper (p .size) (writes p made is)
     spi-proper [] = tt
     spi-proper (powerOn ∷ is) = spi-proper is
     spi-proper (powerOff ∷ is) = spi-proper is
     spi-proper (selection bs e ∷ is) =
-        proper-append (p .size) (writes p made is) _ (spi-proper is) (none-proper (enabled p is) _ (stores-proper (bits p made is) (reading p bs)))
+        proper-append (p .size) (writes p made is) _ (spi-proper is) (none-proper (enabled p is) _ (stores-proper (bits p made is) e (reading p bs)))
 
   -- ---- I2C
 

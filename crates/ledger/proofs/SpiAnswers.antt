@@ -18,7 +18,7 @@ use Rattle.selection.specs.declared.edge.Edge.{Edge}
 use Rattle.selection.specs.declared.edge.Edge.the-variants.{Select, Deselect, Rise, Fall, Quiet}
 use Rattle.selection.specs.declared.levels.Levels.{Levels}
 use Rattle.selection.specs.declared.phase.Phase.{Phase}
-use Rattle.selection.specs.declared.phase.Phase.the-variants.{Rest, Ignoring, Taking, Showing, Waiting}
+use Rattle.selection.specs.declared.phase.Phase.the-variants.{Rest, Ignoring, Taking, Showing, Waiting, Pending}
 use Rattle.spi.specs.declared.sample.Spi.{Spi}
 use Rattle.selection.specs.Edge.{edgeOf}
 use Rattle.selection.specs.Phase.{nextSource, afterRise}
@@ -37,6 +37,7 @@ isShowing Ignoring = false
 isShowing (Taking f n v) = false
 isShowing (Showing s k) = true
 isShowing (Waiting a) = false
+isShowing (Pending v a) = false
 
 -- the answer by what is shown
 pub answer-held : (l : Levels) (a : Answer) → answerNumber (answerAt l a) ≡ unlessHeld l (answerNumber a)
@@ -75,6 +76,7 @@ module _ (p : Part) where
       by true q = q
       by false q = q
   goes-on (Waiting a) x h = refl
+  goes-on (Pending v a) x h = refl
 
   -- and stores nothing
   no-write : (st : Status) (ph : Phase) (x : Bool) → isShowing ph ≡ true → riseWrite p st ph x ≡ Nothing
@@ -83,6 +85,7 @@ module _ (p : Part) where
   no-write st (Taking f n v) x h = absurd (false≢true h)
   no-write st (Showing s k) x h = refl
   no-write st (Waiting a) x h = refl
+  no-write st (Pending v a) x h = absurd (false≢true h)
 
   rise-same : (y : Bool) (st : Status) (s : Spi) (m : List ℕ) (f : LastFall) (x : Bool) → isShowing (s .phase) ≡ y → Shows st s m f
       → fallShows p st m f ≡ fallShows p st (applied (riseWrite p st (s .phase) x) m) f
@@ -99,6 +102,7 @@ module _ (p : Part) where
   fall-shows fit st m (Taking f n v) old h = h refl
   fall-shows fit st m (Showing s k) old h = refl
   fall-shows fit st m (Waiting a) old h = h refl
+  fall-shows fit st m (Pending v a) old h = h refl
 
   silent-shows : (fit : Fit p) (st : Status) (m : List ℕ) (ph : Phase) → isShowing ph ≡ false → phaseShows p (fit .positive) st m ph ≡ 2
   silent-shows fit st m Rest h = refl
@@ -106,6 +110,7 @@ module _ (p : Part) where
   silent-shows fit st m (Taking f n v) h = refl
   silent-shows fit st m (Showing s k) h = absurd (false≢true (sym h))
   silent-shows fit st m (Waiting a) h = refl
+  silent-shows fit st m (Pending v a) h = refl
 
   module _ (fit : Fit p) (st : Status) (m : List ℕ) where
     power-shows : (cs : Bool) → phaseShows p (fit .positive) st m (atPower cs) ≡ 2

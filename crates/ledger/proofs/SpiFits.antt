@@ -21,12 +21,12 @@ use Rattle.selection.specs.Edge.{clockEdge, selectEdge, edgeOf}
 use Rattle.selection.specs.Phase.{afterRise}
 use Rattle.spi.specs.Sample.{selected, stepOn, stepOf}
 use Rattle.spi.specs.Show.{afterFall}
-use Rattle.spi.specs.Store.{riseWrite}
+use Rattle.spi.specs.Store.{riseWrite, endWrite}
 use Rattle.ledger.specs.Stores.{stored}
 use Rattle.ledger.specs.SpiLedger.{unended, ended, Item, powerOn, powerOff, selection, withBit, closed, itemsOnEdge, reading, isSleep, asleep, withoutIgnored, enabled, SavedBits, register, bits, writes}
 use Rattle.ledger.proofs.Folds.{after-snoc}
 use Rattle.ledger.proofs.StoreLaws.{applied-after}
-use Rattle.ledger.proofs.SpiReads.{phaseAfter, Effect, no-stores, selection-does, stores-snoc}
+use Rattle.ledger.proofs.SpiReads.{phaseAfter, Effect, no-stores, selection-does, stores-snoc, stores-end}
 
 -- at power on, and wherever no selection is open: at rest, or ignoring the bus until CS# has been 1
 abbrev pub atPower : Bool → Phase
@@ -80,10 +80,13 @@ module _ (p : Part) (made : SavedBits) (m₀ : List ℕ) where
         (rw (a .1, a .0, more, ← append-assoc, applied-after), a .1)
 
     end-agrees : (y : Bool) (bs : List Bool) (wp : Bool) → Agrees st m (cond y hs (selection bs unended ∷ hs))
-        → Agrees (statusAfter st wp (opened p y bs)) m (cond y hs (selection bs (ended wp) ∷ hs))
+        → Agrees (statusAfter st wp (opened p y bs)) (applied (endWrite p st (opened p y bs)) m) (cond y hs (selection bs (ended wp) ∷ hs))
     end-agrees true bs wp a = a
     end-agrees false bs wp a =
-        (a .0, rw (a .1) (ap (λ (x : Effect). x .status) (selection-does p (bits p made hs) (enabled p hs) wp wide bs)))
+        let more = stores-end p (bits p made hs) (enabled p hs) wp wide bs in (
+          rw (a .1, a .0, more, ← append-assoc, applied-after),
+          rw (a .1) (ap (λ (x : Effect). x .status) (selection-does p (bits p made hs) (enabled p hs) wp wide bs)),
+        )
 
   -- ---- one edge
 
@@ -158,14 +161,15 @@ module _ (p : Part) (made : SavedBits) (m₀ : List ℕ) where
     module _ (low : s .last .cs ≡ false) (high : l .cs ≡ true) where
       abbrev EndGood : List Item → List Item → Type 0
       EndGood is is′ =
-          Good st s m is → Good (statusAfter st (l .wp) (s .phase)) (next (asleepAfter (s .asleep) (s .phase)) HighZ Rest) m is′
+          Good st s m is
+          → Good (statusAfter st (l .wp) (s .phase)) (next (asleepAfter (s .asleep) (s .phase)) HighZ Rest) (applied (endWrite p st (s .phase)) m) is′
 
-      -- where no selection is open: nothing was taken
+      -- where no selection is open: nothing was taken, and nothing waits
       end-ignoring : (is : List Item) → ((c : Bool) → phaseNow p c is ≡ atPower c) → asleep p is ≡ false → Rested (l .cs) is → EndGood is is
       end-ignoring is power awake t g =
           let q : s .phase ≡ Ignoring = g .phase-is ∙ power (s .last .cs) ∙ ap atPower low in
           record {
-            memory-is = g .memory-is;
+            memory-is = rw q (g .memory-is);
             status-is = rw q (g .status-is);
             sleep-is = rw (g .sleep-is, q, awake);
             phase-is = sym (power (l .cs) ∙ ap atPower high);
@@ -180,7 +184,7 @@ module _ (p : Part) (made : SavedBits) (m₀ : List ℕ) where
       end-good (selection bs unended ∷ is) g =
           let a = end-agrees wide st m (withoutIgnored p is) (asleep p is) bs (l .wp) (g .memory-is, g .status-is) in
           record {
-            memory-is = a .0;
+            memory-is = rw (g .phase-is) (a .0);
             status-is = rw (g .phase-is) (a .1);
             sleep-is = rw (g .sleep-is, g .phase-is) (end-sleep (asleep p is) bs);
             phase-is = sym (ap atPower high);

@@ -19,7 +19,7 @@ use Rattle.ledger.specs.SpiAnswers.{readShows}
 use Rattle.ledger.proofs.SpiShows.{Counted, counted}
 
 -- the first bits of a list, as many as they are
-field-of : (xs ys : List Bool) → field (length xs) (xs ++ ys) ≡ whole xs ys
+pub field-of : (xs ys : List Bool) → field (length xs) (xs ++ ys) ≡ whole xs ys
 field-of [] ys = refl
 field-of (x ∷ xs) ys = ap (put x) (field-of xs ys)
 

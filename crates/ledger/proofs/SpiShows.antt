@@ -18,7 +18,7 @@ use Rattle.selection.specs.declared.opcode.Command.the-variants.{WREN, WRDI, RD
 use Rattle.selection.specs.declared.phase.Field.{Field}
 use Rattle.selection.specs.declared.phase.Field.the-variants.{Opcode, ReadAddress, FastAddress, WriteAddress, Dummy, Data, StatusByte}
 use Rattle.selection.specs.declared.phase.Phase.{Phase}
-use Rattle.selection.specs.declared.phase.Phase.the-variants.{Rest, Ignoring, Taking, Showing, Waiting}
+use Rattle.selection.specs.declared.phase.Phase.the-variants.{Rest, Ignoring, Taking, Showing, Waiting, Pending}
 use Rattle.selection.specs.declared.phase.Source.the-variants.{Memory, Register, Identity}
 use Rattle.selection.specs.Opcode.{commandOf}
 use Rattle.selection.specs.Phase.{width, phaseAfterOpcode, phaseAfterField, afterRise}
@@ -64,6 +64,7 @@ module _ (p : Part) (positive : 0 < p .size) where
   mute (Taking f n v) = muteField f
   mute (Showing s k) = false
   mute (Waiting a) = true
+  mute (Pending v a) = true
 
   mute-either : (t : Bool) (a b : Phase) → mute a ≡ true → mute b ≡ true → mute (cond t a b) ≡ true
   mute-either true a b h h′ = h
@@ -71,7 +72,7 @@ module _ (p : Part) (positive : 0 < p .size) where
 
   mute-after-field : (f : Field) (v : ℕ) → muteField f ≡ true → mute (phaseAfterField p f v) ≡ true
   mute-after-field WriteAddress v h = refl
-  mute-after-field (Data a w) v h = refl
+  mute-after-field (Data a w) v h = mute-either (p .late) _ _ refl refl
   mute-after-field StatusByte v h = refl
   mute-after-field Opcode v h = absurd (false≢true h)
   mute-after-field ReadAddress v h = absurd (false≢true h)
@@ -84,6 +85,7 @@ module _ (p : Part) (positive : 0 < p .size) where
   mute-rise (Taking f n v) x h = mute-either (ltb (n + 1) (width p f)) _ _ h (mute-after-field f (shifted v x) h)
   mute-rise (Showing s k) x h = absurd (false≢true h)
   mute-rise (Waiting a) x h = refl
+  mute-rise (Pending v a) x h = refl
 
   module _ (st : Status) (m : List ℕ) where
     -- the answer after a counted fall, where nothing was shown before: of a phase, and after bits from a phase on
@@ -124,6 +126,7 @@ module _ (p : Part) (positive : 0 < p .size) where
     mute-shows (Taking f n v) h = refl
     mute-shows (Showing s k) h = absurd (false≢true h)
     mute-shows (Waiting a) h = refl
+    mute-shows (Pending v a) h = refl
 
     mute-out : (ph : Phase) (bs : List Bool) → mute ph ≡ true → out ph bs ≡ 2
     mute-out ph [] h = mute-shows ph h

@@ -111,9 +111,21 @@ abbrev pub addressIn : Part → FieldBits → ℕ
 addressIn p (short xs) = 0
 addressIn p (whole xs rest) = number xs % p .size
 
+-- all but the last of a list of bits
+abbrev pub allButLast : List Bool → List Bool
+allButLast [] = []
+allButLast (b ∷ []) = []
+allButLast (b ∷ c ∷ bs) = b ∷ allButLast (c ∷ bs)
+
+-- the data bits of a WRITE among which its whole bytes are. On a part that stores late a byte is whole only once it has been followed, by
+-- another counted rise or by CS# rising (document 02, ask 6): while CS# has not risen, the last bit makes no byte whole
+abbrev pub followedBits : Part → End → List Bool → List Bool
+followedBits p unended bs = cond (p .late) (allButLast bs) bs
+followedBits p (ended wp) bs = bs
+
 -- the whole data bytes of WRITE, whose address comes first, and where they begin
-abbrev pub dataBytes : Part → List Bool → List ℕ
-dataBytes p rest = bytes (afterAddress (field (p .width) rest))
+abbrev pub dataBytes : Part → End → List Bool → List ℕ
+dataBytes p x rest = bytes (followedBits p x (afterAddress (field (p .width) rest)))
 
 abbrev pub dataAddress : Part → List Bool → ℕ
 dataAddress p rest = addressIn p (field (p .width) rest)
@@ -156,25 +168,26 @@ abbrev pub unlessAny : List ℕ → Bool → Bool
 unlessAny [] e = e
 unlessAny (v ∷ vs) e = false
 
-abbrev pub enableAfter : Part → Reading → Bool → Bool
-enableAfter p partial e = e
-enableAfter p (command WREN rest) e = true
-enableAfter p (command WRDI rest) e = false
-enableAfter p (command RDSR rest) e = e
-enableAfter p (command WRSR rest) e = unlessAny (bytes rest) e
-enableAfter p (command READ rest) e = e
-enableAfter p (command WRITE rest) e = unlessAny (dataBytes p rest) e
-enableAfter p (command FSTRD rest) e = e
-enableAfter p (command RDID rest) e = e
-enableAfter p (command SLEEP rest) e = e
-enableAfter p (command Unknown rest) e = e
+-- after a selection with this end
+abbrev pub enableAfter : Part → End → Reading → Bool → Bool
+enableAfter p x partial e = e
+enableAfter p x (command WREN rest) e = true
+enableAfter p x (command WRDI rest) e = false
+enableAfter p x (command RDSR rest) e = e
+enableAfter p x (command WRSR rest) e = unlessAny (bytes rest) e
+enableAfter p x (command READ rest) e = e
+enableAfter p x (command WRITE rest) e = unlessAny (dataBytes p x rest) e
+enableAfter p x (command FSTRD rest) e = e
+enableAfter p x (command RDID rest) e = e
+enableAfter p x (command SLEEP rest) e = e
+enableAfter p x (command Unknown rest) e = e
 
 abbrev pub enabled : Part → List Item → Bool
 enabled p [] = false
 enabled p (powerOn ∷ is) = false
 enabled p (powerOff ∷ is) = false
 enabled p (selection bs unended ∷ is) = enabled p is
-enabled p (selection bs (ended wp) ∷ is) = enableAfter p (reading p bs) (enabled p is)
+enabled p (selection bs (ended wp) ∷ is) = enableAfter p (ended wp) (reading p bs) (enabled p is)
 
 -- ---- the saved bits: those of the last permitted status write, or those made
 
@@ -233,22 +246,23 @@ placed p b a (v ∷ vs) =
     cond (ltb a (protectedStart (register b false) p)) (record { address = a; value = v } ∷ placed p b (nextAddress (p .size) a) vs)
     (placed p b (nextAddress (p .size) a) vs)
 
-abbrev pub stores : Part → SavedBits → Reading → List Store
-stores p b partial = []
-stores p b (command WREN rest) = []
-stores p b (command WRDI rest) = []
-stores p b (command RDSR rest) = []
-stores p b (command WRSR rest) = []
-stores p b (command READ rest) = []
-stores p b (command WRITE rest) = placed p b (dataAddress p rest) (dataBytes p rest)
-stores p b (command FSTRD rest) = []
-stores p b (command RDID rest) = []
-stores p b (command SLEEP rest) = []
-stores p b (command Unknown rest) = []
+-- those of a selection with this end
+abbrev pub stores : Part → SavedBits → End → Reading → List Store
+stores p b x partial = []
+stores p b x (command WREN rest) = []
+stores p b x (command WRDI rest) = []
+stores p b x (command RDSR rest) = []
+stores p b x (command WRSR rest) = []
+stores p b x (command READ rest) = []
+stores p b x (command WRITE rest) = placed p b (dataAddress p rest) (dataBytes p x rest)
+stores p b x (command FSTRD rest) = []
+stores p b x (command RDID rest) = []
+stores p b x (command SLEEP rest) = []
+stores p b x (command Unknown rest) = []
 
 -- all permitted writes of the items, the first first: those of WRITEs with enable
 abbrev pub writes : Part → SavedBits → List Item → List Store
 writes p made [] = []
 writes p made (powerOn ∷ is) = writes p made is
 writes p made (powerOff ∷ is) = writes p made is
-writes p made (selection bs e ∷ is) = writes p made is ++ cond (enabled p is) (stores p (bits p made is) (reading p bs)) []
+writes p made (selection bs e ∷ is) = writes p made is ++ cond (enabled p is) (stores p (bits p made is) e (reading p bs)) []

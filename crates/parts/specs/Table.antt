@@ -27,6 +27,7 @@ mr45v032a =
       sleep = false;
       identity = 0 ∷ 0 ∷ 0 ∷ [];
       saved = false;
+      late = false;
     }
 
 -- sheet 000
@@ -43,6 +44,7 @@ mr45v100a =
       sleep = true;
       identity = 0xae ∷ 0x83 ∷ 0x9 ∷ [];
       saved = true;
+      late = true;
     }
 
 -- sheet 004
@@ -59,6 +61,7 @@ mr45v200b =
       sleep = false;
       identity = 0xae ∷ 0x83 ∷ 0x1a ∷ [];
       saved = true;
+      late = false;
     }
 
 -- sheet 001
@@ -75,6 +78,7 @@ mr44v064b =
       sleep = false;
       identity = 0 ∷ 0 ∷ 0 ∷ [];
       saved = false;
+      late = false;
     }
 
 -- sheet 002
@@ -91,6 +95,7 @@ ms85rc1mty =
       sleep = false;
       identity = 0 ∷ 0 ∷ 0 ∷ [];
       saved = false;
+      late = false;
     }
 
 -- an empty row, which a number past the table stands for
@@ -107,6 +112,7 @@ noPart =
       sleep = false;
       identity = [];
       saved = false;
+      late = false;
     }
 
 -- in the order of the part numbers

@@ -37,6 +37,8 @@ pub struct Part {
     pub identity: [u8; 3],
     // whether SRWD, BP1 and BP0 survive power loss
     pub saved: bool,
+    // whether a finished data byte of WRITE waits, to be stored at the next counted rise or as CS# rises
+    pub late: bool,
 }
 
 // In the order of the part numbers.
@@ -53,6 +55,7 @@ pub const PARTS: [Part; 5] = [
         sleep: false,
         identity: [0, 0, 0],
         saved: false,
+        late: false,
     },
     // MR45V100A, sheet 000
     Part {
@@ -66,6 +69,7 @@ pub const PARTS: [Part; 5] = [
         sleep: true,
         identity: [0xae, 0x83, 0x9],
         saved: true,
+        late: true,
     },
     // MR45V200B, sheet 004
     Part {
@@ -79,6 +83,7 @@ pub const PARTS: [Part; 5] = [
         sleep: false,
         identity: [0xae, 0x83, 0x1a],
         saved: true,
+        late: false,
     },
     // MR44V064B, sheet 001
     Part {
@@ -92,6 +97,7 @@ pub const PARTS: [Part; 5] = [
         sleep: false,
         identity: [0, 0, 0],
         saved: false,
+        late: false,
     },
     // MS85RC1MTY, sheet 002
     Part {
@@ -105,6 +111,7 @@ pub const PARTS: [Part; 5] = [
         sleep: false,
         identity: [0, 0, 0],
         saved: false,
+        late: false,
     },
 ];
 

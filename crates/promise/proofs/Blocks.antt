@@ -32,12 +32,12 @@ use Rattle.selection.specs.declared.levels.Levels.{Levels}
 use Rattle.selection.specs.declared.phase.Field.{Field}
 use Rattle.selection.specs.declared.phase.Field.the-variants.{Opcode, ReadAddress, FastAddress, WriteAddress, Dummy, Data, StatusByte}
 use Rattle.selection.specs.declared.phase.Phase.{Phase}
-use Rattle.selection.specs.declared.phase.Phase.the-variants.{Rest, Ignoring, Taking, Showing, Waiting}
+use Rattle.selection.specs.declared.phase.Phase.the-variants.{Rest, Ignoring, Taking, Showing, Waiting, Pending}
 use Rattle.selection.specs.Edge.{edgeOf}
 use Rattle.selection.specs.Levels.{levelsOf}
 use Rattle.spi.specs.declared.sample.Spi.{Spi}
 use Rattle.spi.specs.Sample.{stepOn, stepOf}
-use Rattle.spi.specs.Store.{permitted, dataWrite, fieldWrite, riseWrite}
+use Rattle.spi.specs.Store.{permitted, finishedWrite, dataWrite, fieldWrite, riseWrite, endWrite}
 use Rattle.chip.specs.declared.check.Verdict.{Verdict}
 use Rattle.chip.specs.declared.check.Verdict.the-variants.{Passed, Failed}
 use Rattle.chip.specs.declared.model.BusState.{BusState}
@@ -82,12 +82,19 @@ module _ (p : Part) (st : Status) (m : List ℕ) (a : ℕ) (c : covers st p a �
           getD-set-other m b a v 0 (below-apart (protectedStart st p) a b h k)
       by false e = refl
 
+  finished-keeps : (b v : ℕ) → Keeps (finishedWrite p st b v)
+  finished-keeps b v = by (p .late)
+    where
+      by : (y : Bool) → Keeps (cond y Nothing (permitted p st b v))
+      by true = refl
+      by false = permitted-keeps b v
+
   data-keeps : (b n v : ℕ) (x : Bool) → Keeps (dataWrite p st b n v x)
   data-keeps b n v x = by (ltb n 7)
     where
-      by : (y : Bool) → Keeps (cond y Nothing (permitted p st b (shifted v x)))
+      by : (y : Bool) → Keeps (cond y Nothing (finishedWrite p st b (shifted v x)))
       by true = refl
-      by false = permitted-keeps b (shifted v x)
+      by false = finished-keeps b (shifted v x)
 
   field-keeps : (f : Field) (n v : ℕ) (x : Bool) → Keeps (fieldWrite p st f n v x)
   field-keeps Opcode n v x = refl
@@ -104,6 +111,15 @@ module _ (p : Part) (st : Status) (m : List ℕ) (a : ℕ) (c : covers st p a �
   rise-keeps (Taking f n v) x = field-keeps f n v x
   rise-keeps (Showing s k) x = refl
   rise-keeps (Waiting k) x = refl
+  rise-keeps (Pending v b) x = permitted-keeps b v
+
+  end-keeps : (f : Phase) → Keeps (endWrite p st f)
+  end-keeps Rest = refl
+  end-keeps Ignoring = refl
+  end-keeps (Taking f n v) = refl
+  end-keeps (Showing s k) = refl
+  end-keeps (Waiting k) = refl
+  end-keeps (Pending v b) = permitted-keeps b v
 
   sample-keeps : (s : Spi) (l : Levels) → Keeps (stepOf p st s l m .write)
   unfolding stepOf
@@ -111,7 +127,7 @@ module _ (p : Part) (st : Status) (m : List ℕ) (a : ℕ) (c : covers st p a �
     where
       by : (e : Edge) → Keeps (stepOn e p st s l m .write)
       by Select = refl
-      by Deselect = refl
+      by Deselect = end-keeps (s .phase)
       by (Rise x) = rise-keeps (s .phase) x
       by Fall = refl
       by Quiet = refl

@@ -104,7 +104,7 @@ module _ (rest : List Bool) where
   abbrev Written : Type 0
   Written = (itemsIn (enabledWithQuarter ++ selected (write rest)) ≡ selection (write rest) (ended true) ∷ itemsIn enabledWithQuarter)
       × (reading (partOf (model .part)) (write rest) ≡ command WRITE rest)
-      × (dataBytes (partOf (model .part)) rest ≡ 0xaa ∷ [])
+      × (dataBytes (partOf (model .part)) (ended true) rest ≡ 0xaa ∷ [])
 
 written-below : Written below
 unfolding makeOf eventOf checkOf readOf advanceOf stepOf commandOf protectedStart

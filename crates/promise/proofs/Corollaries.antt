@@ -1,5 +1,5 @@
 -- What follows from the promise, in plain words: without the enable nothing is stored, one enable serves one WRITE, a byte is the
--- old or the new one at every moment, and a cut changes no byte. For every making, every first memory and every list of events.
+-- old or the new one at every moment, a cut changes no byte, and on a part that stores late it leaves the old one where one waits. For every making, every first memory and every list of events.
 -- From the memory's agreement with the ledger after every list. Assumes nothing.
 use Prim.Native.Nat.{ℕ}
 use mathlib.Core.Path.{_≡_, refl, sym, ap, _∙_, subst}
@@ -22,14 +22,15 @@ use Rattle.runs.specs.Event.{eventOf}
 use Rattle.ledger.specs.Bits.{bytes}
 use Rattle.ledger.specs.History.{Entry}
 use Rattle.ledger.specs.Stores.{Store, stored}
-use Rattle.ledger.specs.SpiLedger.{End, unended, ended, Item, powerOn, powerOff, selection, Reading, partial, command, reading, dataBytes, asleep, withoutIgnored, unlessAny, enableAfter, enabled, SavedBits, writes}
+use Rattle.ledger.specs.SpiLedger.{End, unended, ended, Item, powerOn, powerOff, selection, Reading, partial, command, reading, dataBytes, asleep, withoutIgnored, unlessAny, enableAfter, enabled, SavedBits, bits, stores, writes}
+use Rattle.ledger.proofs.Followed.{open-same}
 use Rattle.ledger.proofs.Proper.{AllProper, proper-last}
 use Rattle.ledger.proofs.StoreLaws.{storesOf, stored-append}
 use Rattle.promise.specs.Lists.{Observed, observed, modelAfter}
 use Rattle.promise.specs.Fed.{withEvent}
 use Rattle.promise.specs.Ledger.{savedIn, ledgerStores}
 use Rattle.promise.specs.Promise.{madeBy, cut, historyOf}
-use Rattle.promise.specs.Corollaries.{isWren, NoWren, OldOrNew, old, new, memoryAfterList, writesOf, itemsOf, NoEnableNoStore, NoWrenNoStore, OneEnableOneWrite, OneByteAtMost, CutKeepsMemory, CutWithoutPower}
+use Rattle.promise.specs.Corollaries.{isWren, NoWren, OldOrNew, old, new, memoryAfterList, writesOf, itemsOf, NoEnableNoStore, NoWrenNoStore, OneEnableOneWrite, OneByteAtMost, CutKeepsMemory, CutLosesWaiting, CutWithoutPower}
 use Rattle.promise.proofs.Ranges.{range-wired, made-in, made-off}
 use Rattle.promise.proofs.Stays.{accepted-sized, cut-memory, cut-refused}
 use Rattle.promise.proofs.Joins.{model-join, memory-join, fed-join}
@@ -44,18 +45,18 @@ module _ (p : Part) (made : SavedBits) where
   unless-off (v ∷ vs) = refl
 
   -- only WREN sets the enable
-  enable-off : (r : Reading) → isWren r ≡ false → enableAfter p r false ≡ false
-  enable-off partial h = refl
-  enable-off (command WREN rest) h = h
-  enable-off (command WRDI rest) h = refl
-  enable-off (command RDSR rest) h = refl
-  enable-off (command WRSR rest) h = unless-off (bytes rest)
-  enable-off (command READ rest) h = refl
-  enable-off (command WRITE rest) h = unless-off (dataBytes p rest)
-  enable-off (command FSTRD rest) h = refl
-  enable-off (command RDID rest) h = refl
-  enable-off (command SLEEP rest) h = refl
-  enable-off (command Unknown rest) h = refl
+  enable-off : (x : End) (r : Reading) → isWren r ≡ false → enableAfter p x r false ≡ false
+  enable-off x partial h = refl
+  enable-off x (command WREN rest) h = h
+  enable-off x (command WRDI rest) h = refl
+  enable-off x (command RDSR rest) h = refl
+  enable-off x (command WRSR rest) h = unless-off (bytes rest)
+  enable-off x (command READ rest) h = refl
+  enable-off x (command WRITE rest) h = unless-off (dataBytes p x rest)
+  enable-off x (command FSTRD rest) h = refl
+  enable-off x (command RDID rest) h = refl
+  enable-off x (command SLEEP rest) h = refl
+  enable-off x (command Unknown rest) h = refl
 
   -- a selection that comes without the enable, ignored (y) or not, stores nothing
   one-stores : (y : Bool) (bs : List Bool) (e : End) (hs : List Item) → enabled p hs ≡ false
@@ -67,7 +68,7 @@ module _ (p : Part) (made : SavedBits) where
       → enabled p (cond y hs (selection bs e ∷ hs)) ≡ false
   one-enable true bs e hs w h = h
   one-enable false bs unended hs w h = h
-  one-enable false bs (ended wp) hs w h = rw h (enable-off (reading p bs) w)
+  one-enable false bs (ended wp) hs w h = rw h (enable-off (ended wp) (reading p bs) w)
 
   -- nor does any number of them without a WREN
   off-enable : (more is : List Item) → NoWren p more → enabled p (withoutIgnored p is) ≡ false → enabled p (withoutIgnored p (more ++ is)) ≡ false
@@ -87,8 +88,14 @@ module _ (p : Part) (made : SavedBits) where
 
   -- a WRITE with a whole data byte, not ignored and ended, ends the enable
   write-ends : (bs : List Bool) (wp : Bool) (is : List Item) (rest : List Bool) (v : ℕ) (vs : List ℕ) → asleep p is ≡ false
-      → reading p bs ≡ command WRITE rest → dataBytes p rest ≡ v ∷ vs → enabled p (withoutIgnored p (selection bs (ended wp) ∷ is)) ≡ false
+      → reading p bs ≡ command WRITE rest → dataBytes p (ended wp) rest ≡ v ∷ vs → enabled p (withoutIgnored p (selection bs (ended wp) ∷ is)) ≡ false
   write-ends bs wp is rest v vs a r d = rw (a, r, d)
+
+  -- an open selection with more bits, which store no more, ignored (y) or not
+  open-stores : (y : Bool) (bs cs : List Bool) (hs : List Item) → ((b : SavedBits) → stores p b unended (reading p cs) ≡ stores p b unended (reading p bs))
+      → writes p made (cond y hs (selection cs unended ∷ hs)) ≡ writes p made (cond y hs (selection bs unended ∷ hs))
+  open-stores true bs cs hs h = refl
+  open-stores false bs cs hs h = ap (λ (ws : List Store). writes p made hs ++ cond (enabled p hs) ws []) (h (bits p made hs))
 
 -- ---- old or new
 
@@ -181,6 +188,13 @@ module _ (part pins bits : ℕ) (first : List ℕ) where
 
   pub cut-keeps-memory : CutKeepsMemory part pins bits first
   cut-keeps-memory es = memory-join es (cut ∷ []) model first ∙ cut-memory (modelAfter model first es) (memoryOf es)
+
+  pub cut-loses-waiting : CutLosesWaiting part pins bits first
+  cut-loses-waiting spi late es ks is bs ds address xs n i j r w least most =
+      cut-keeps-memory (es ++ ks)
+      ∙ same-writes es (es ++ ks)
+      (rw (spi, i, j) (open-stores row (savedIn (model .status)) (asleep row is) bs (bs ++ ds) (withoutIgnored row is)
+      (λ b. open-same row b late address w bs ds xs n r least most)))
 
   pub cut-without-power : CutWithoutPower part pins bits first
   cut-without-power es e =

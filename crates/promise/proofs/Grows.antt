@@ -34,7 +34,7 @@ use Rattle.ledger.specs.I2cLedger as I2cLedger
 use Rattle.ledger.proofs.Proper.{AllProper, spi-proper, i2c-proper}
 use Rattle.ledger.proofs.StoreLaws.{storesOf}
 use Rattle.ledger.specs.Word.{Wired}
-use Rattle.ledger.proofs.SpiReads.{phaseAfter, no-stores, stores-snoc}
+use Rattle.ledger.proofs.SpiReads.{phaseAfter, no-stores, stores-snoc, stores-end}
 use Rattle.ledger.proofs.I2cReads.{after, wrote-more, span-wrote}
 use Rattle.promise.specs.Ledger.{savedIn, ledgerStores}
 
@@ -59,7 +59,10 @@ module _ (p : Part) (made : SavedBits) (wide : 0 < p .width) where
   end-grows : (y : Bool) (bs : List Bool) (wp : Bool) (hs : List SpiLedger.Item)
       → Grown (SpiLedger.writes p made (cond y hs (selection bs unended ∷ hs))) (SpiLedger.writes p made (cond y hs (selection bs (ended wp) ∷ hs)))
   end-grows true bs wp hs = same _
-  end-grows false bs wp hs = same _
+  end-grows false bs wp hs = (
+    SpiStore.endWrite p (register (bits p made hs) (enabled p hs)) (phaseAfter p (SpiPhases.Taking Opcode 0 0) bs),
+    rw (stores-end p (bits p made hs) (enabled p hs) wp wide bs, append-assoc),
+  )
 
   rise-grows : (y : Bool) (bs : List Bool) (x : Bool) (hs : List SpiLedger.Item)
       → Grown (SpiLedger.writes p made (cond y hs (selection bs unended ∷ hs)))

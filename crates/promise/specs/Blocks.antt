@@ -54,5 +54,5 @@ module _ (part pins bits : ℕ) (first : List ℕ) where
       → asleep row (itemsIn es) ≡ false
       → enabled row (withoutIgnored row (itemsIn es)) ≡ true
       → reading row bs ≡ command WRITE rest
-      → dataBytes row rest ≡ v ∷ []
+      → dataBytes row e rest ≡ v ∷ []
       → memory (es ++ ks) ≡ cond (protected es (dataAddress row rest)) (memory es) (set (memory es) (dataAddress row rest) v)

@@ -1,6 +1,6 @@
 -- What follows from demand 3, in plain words: without the enable nothing is stored, one enable serves one WRITE, a byte is the old or
--- the new one at every moment, and a cut changes no byte.
-use Prim.Native.Nat.{ℕ, _<_}
+-- the new one at every moment, a cut changes no byte, and on a part that stores late it leaves the old one where one waits.
+use Prim.Native.Nat.{ℕ, _+_, _*_, _<_, _≤_}
 use mathlib.Core.Path.{_≡_}
 use mathlib.Core.Bool.{Bool, true, false}
 use mathlib.Core.List.{List, [], _∷_, _++_}
@@ -12,7 +12,7 @@ use Rattle.selection.specs.declared.opcode.Command.the-variants.{WREN, WRDI, RD
 use Rattle.chip.specs.declared.model.BusState.the-variants.{Unpowered}
 use Rattle.chip.specs.declared.model.Model.{Model}
 use Rattle.ledger.specs.Stores.{Store}
-use Rattle.ledger.specs.SpiLedger.{End, ended, Item, powerOn, powerOff, selection, items, Reading, partial, command, reading, dataBytes, asleep, withoutIgnored, enabled}
+use Rattle.ledger.specs.SpiLedger.{End, unended, ended, Item, powerOn, powerOff, selection, items, Reading, partial, command, reading, dataBytes, asleep, withoutIgnored, enabled}
 use Rattle.promise.specs.Lists.{modelAfter, memoryAfter}
 use Rattle.promise.specs.Ledger.{ledgerStores}
 use Rattle.promise.specs.Promise.{madeBy, thenCut, historyOf}
@@ -93,7 +93,7 @@ module _ (part pins bits : ℕ) (first : List ℕ) where
       → itemsOf es ≡ selection bs (ended wp) ∷ is
       → asleep row is ≡ false
       → reading row bs ≡ command WRITE rest
-      → dataBytes row rest ≡ v ∷ vs
+      → dataBytes row (ended wp) rest ≡ v ∷ vs
       → itemsOf (es ++ ks) ≡ more ++ itemsOf es
       → NoWren row more
       → memoryAfterList (es ++ ks) ≡ memoryAfterList es
@@ -116,3 +116,19 @@ module _ (part pins bits : ℕ) (first : List ℕ) where
       → (modelAfter model first (thenCut es) ≡ modelAfter model first es)
       × (memoryAfterList (thenCut es) ≡ memoryAfterList es)
       × (historyOf model first (thenCut es) ≡ historyOf model first es)
+
+  -- on a part that stores late: after a list with an open WRITE, of whose data byte number n (from 0) a bit is in, further events bring
+  -- its other bits or some of them, up to the eighth, and neither the next counted rise nor CS# rising. A cut then leaves the old byte: the
+  -- memory is what it was before those events
+  abbrev pub CutLosesWaiting : Type 0
+  CutLosesWaiting =
+      isSpi (row .bus) ≡ true
+      → row .late ≡ true
+      → (es ks : List (List ℕ)) (is : List Item) (bs ds address bits : List Bool) (n : ℕ)
+      → itemsOf es ≡ selection bs unended ∷ is
+      → itemsOf (es ++ ks) ≡ selection (bs ++ ds) unended ∷ is
+      → reading row bs ≡ command WRITE (address ++ bits)
+      → length address ≡ row .width
+      → 8 * n < length bits
+      → length (bits ++ ds) ≤ 8 * n + 8
+      → memoryAfterList (thenCut (es ++ ks)) ≡ memoryAfterList es

@@ -15,7 +15,7 @@ use Rattle.selection.specs.declared.phase.Field.the-variants.{Opcode, Re
 use Rattle.selection.specs.declared.phase.Source.{Source}
 use Rattle.selection.specs.declared.phase.Source.the-variants.{Memory, Register, Identity}
 use Rattle.selection.specs.declared.phase.Phase.{Phase}
-use Rattle.selection.specs.declared.phase.Phase.the-variants.{Rest, Ignoring, Taking, Showing, Waiting}
+use Rattle.selection.specs.declared.phase.Phase.the-variants.{Rest, Ignoring, Taking, Showing, Waiting, Pending}
 use Rattle.selection.specs.Phase.{width}
 use Rattle.selection.specs.Ranges.{FieldIn, SourceIn, TakingIn, PhaseIn, fieldIn, sourceIn, phaseIn}
 
@@ -46,6 +46,9 @@ phase-in p (Showing s k) h =
     let a = and-both (sourceIn p s) (ltb k 8) h in
     record { source = source-in p s (a .0); bit = ltb-true k 8 (a .1) }
 phase-in p (Waiting a) h = tt
+phase-in p (Pending v a) h =
+    let b = and-both (p .late) (ltb a (p .size)) h in
+    record { late = b .0; address = ltb-true a (p .size) (b .1) }
 
 field-test : (p : Part) (f : Field) → FieldIn p f → fieldIn p f ≡ true
 field-test p Opcode h = refl
@@ -67,6 +70,7 @@ phase-test p Ignoring h = refl
 phase-test p (Taking f n v) h = simp (field-test p f (h .field), lt-ltb n (width p f) (h .short), lt-ltb v (2 ^ n) (h .bits))
 phase-test p (Showing s k) h = simp (source-test p s (h .source), lt-ltb k 8 (h .bit))
 phase-test p (Waiting a) h = refl
+phase-test p (Pending v a) h = simp (h .late, lt-ltb a (p .size) (h .address))
 
 -- ---- the bits of a field
 

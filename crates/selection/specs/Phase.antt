@@ -13,7 +13,7 @@ use Rattle.selection.specs.declared.phase.Source.{Source}
 use Rattle.selection.specs.declared.phase.Source.the-variants.{Memory, Register, Identity}
 use Rattle.selection.specs.declared.phase.Action.the-variants.{SetLatch, ClearLatch, FallAsleep, WriteStatus}
 use Rattle.selection.specs.declared.phase.Phase.{Phase}
-use Rattle.selection.specs.declared.phase.Phase.the-variants.{Rest, Ignoring, Taking, Showing, Waiting}
+use Rattle.selection.specs.declared.phase.Phase.the-variants.{Rest, Ignoring, Taking, Showing, Waiting, Pending}
 use Rattle.selection.specs.Opcode.{commandOf}
 
 -- how many bits a field has: opcode, dummy and data eight each, an address as many as the part's table says
@@ -39,15 +39,23 @@ phaseAfterOpcode RDID = Showing (Identity 0) 0
 phaseAfterOpcode SLEEP = Waiting FallAsleep
 phaseAfterOpcode Unknown = Ignoring
 
+-- the data byte that follows one at the address a: stored or not, a data byte of WRITE moves the address one up, and from the top to 0
+abbrev pub dataAfter : Part → ℕ → Field
+dataAfter p a = Data (nextAddress (p .size) a) true
+
+-- the phase after the last bit of a data byte v of WRITE: on a part that stores late it waits, on any other the next one begins
+abbrev pub phaseAfterData : Part → ℕ → ℕ → Phase
+phaseAfterData p a v = cond (p .late) (Pending v a) (Taking (dataAfter p a) 0 0)
+
 -- the phase after the last bit of a field, whose bits make v. READ shows from its address on, FSTRD after eight bits more of any
--- level. Addresses are taken modulo the size; each data byte of WRITE, stored or not, moves the address one up, and from the top to 0
+-- level. Addresses are taken modulo the size
 abbrev pub phaseAfterField : Part → Field → ℕ → Phase
 phaseAfterField p Opcode v = phaseAfterOpcode (commandOf p v)
 phaseAfterField p ReadAddress v = Showing (Memory (v % p .size)) 0
 phaseAfterField p FastAddress v = Taking (Dummy (v % p .size)) 0 0
 phaseAfterField p WriteAddress v = Taking (Data (v % p .size) false) 0 0
 phaseAfterField p (Dummy a) v = Showing (Memory a) 0
-phaseAfterField p (Data a w) v = Taking (Data (nextAddress (p .size) a) true) 0 0
+phaseAfterField p (Data a w) v = phaseAfterData p a v
 phaseAfterField p StatusByte v = Waiting (WriteStatus v)
 
 -- what is shown after the last bit of a byte: of the memory the next one, after the top the one at 0; the register again; the next of
@@ -65,10 +73,12 @@ afterTaken p f n v b = cond (ltb (n + 1) (width p f)) (Taking f (n + 1) (shifted
 abbrev pub afterShown : Part → Source → ℕ → Phase
 afterShown p s k = cond (ltb k 7) (Showing s (k + 1)) (Showing (nextSource p s) 0)
 
--- the phase after a counted rise with the bit b. Bits after WREN, WRDI, SLEEP and WRSR's first data byte are ignored
+-- the phase after a counted rise with the bit b. Bits after WREN, WRDI, SLEEP and WRSR's first data byte are ignored; after a data byte
+-- that waits, the bit is the first of the next one
 abbrev pub afterRise : Part → Phase → Bool → Phase
 afterRise p Rest b = Rest
 afterRise p Ignoring b = Ignoring
 afterRise p (Taking f n v) b = afterTaken p f n v b
 afterRise p (Showing s k) b = afterShown p s k
 afterRise p (Waiting a) b = Waiting a
+afterRise p (Pending v a) b = afterTaken p (dataAfter p a) 0 0 b

@@ -1,5 +1,6 @@
 -- What the numbers of a phase may be: as a proposition, and as the test of the same.
 use Prim.Native.Nat.{ℕ, _^_, _<_, _≤_}
+use mathlib.Core.Path.{_≡_}
 use mathlib.Core.Bool.{Bool, true, _&&_}
 use lib.Dec.{ltb, leb}
 use Rattle.parts.specs.declared.part.Part.{Part}
@@ -8,7 +9,7 @@ use Rattle.selection.specs.declared.phase.Field.the-variants.{Opcode, Re
 use Rattle.selection.specs.declared.phase.Source.{Source}
 use Rattle.selection.specs.declared.phase.Source.the-variants.{Memory, Register, Identity}
 use Rattle.selection.specs.declared.phase.Phase.{Phase}
-use Rattle.selection.specs.declared.phase.Phase.the-variants.{Rest, Ignoring, Taking, Showing, Waiting}
+use Rattle.selection.specs.declared.phase.Phase.the-variants.{Rest, Ignoring, Taking, Showing, Waiting, Pending}
 use Rattle.selection.specs.Phase.{width}
 
 -- an address lies within the part
@@ -37,12 +38,18 @@ pub record ShowingIn (p : Part) (s : Source) (k : ℕ) : Type 0 where
   pub source : SourceIn p s
   pub bit : k < 8
 
+-- a data byte waits only on a part that stores late, for an address within the part
+pub record PendingIn (p : Part) (a : ℕ) : Type 0 where
+  pub late : p .late ≡ true
+  pub address : a < p .size
+
 abbrev pub PhaseIn : Part → Phase → Type 0
 PhaseIn p Rest = Unit {0}
 PhaseIn p Ignoring = Unit {0}
 PhaseIn p (Taking f n v) = TakingIn p f n v
 PhaseIn p (Showing s k) = ShowingIn p s k
 PhaseIn p (Waiting a) = Unit {0}
+PhaseIn p (Pending v a) = PendingIn p a
 
 abbrev pub fieldIn : Part → Field → Bool
 fieldIn p Opcode = true
@@ -64,3 +71,4 @@ phaseIn p Ignoring = true
 phaseIn p (Taking f n v) = fieldIn p f && (ltb n (width p f) && ltb v (2 ^ n))
 phaseIn p (Showing s k) = sourceIn p s && ltb k 8
 phaseIn p (Waiting a) = true
+phaseIn p (Pending v a) = p .late && ltb a (p .size)

@@ -43,6 +43,8 @@ pub enum Phase {
     // the next counted fall shows bit 7 - bit
     Showing { source: Source, bit: u8 },
     Waiting { action: Action },
+    // a finished data byte of WRITE, which is stored at the next counted rise or as CS# rises: on a part that stores late
+    Pending { byte: u8, address: u32 },
 }
 
 // How many bits a field has.

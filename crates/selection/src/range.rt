@@ -61,5 +61,12 @@ pub fn phase_in(part: Part, phase: Phase) -> bool
             }
         }
         Phase::Waiting { action: _ } => true,
+        Phase::Pending { address, byte: _ } => {
+            if part.late {
+                address < part.size
+            } else {
+                false
+            }
+        }
     }
 }

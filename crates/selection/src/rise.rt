@@ -2,7 +2,7 @@
 ghost use mathlib.Core.Path.{_≡_};
 ghost use Prim.Native.Nat.{_<_, _^_};
 ghost use Rattle.parts.specs.Table.{Fit};
-ghost use Rattle.selection.specs.Phase.{width, phaseAfterOpcode, phaseAfterField, nextSource, afterTaken, afterShown, afterRise};
+ghost use Rattle.selection.specs.Phase.{width, phaseAfterOpcode, dataAfter, phaseAfterData, phaseAfterField, nextSource, afterTaken, afterShown, afterRise};
 ghost use Rattle.selection.specs.Ranges.{FieldIn, SourceIn, TakingIn, ShowingIn, PhaseIn};
 use crate::opcode::Command;
 use crate::phase::Action;
@@ -53,6 +53,29 @@ pub fn phase_after_opcode(command: Command) -> Phase
     }
 }
 
+// The data byte of WRITE that follows one at this address.
+pub fn data_after(part: Part, address: u32) -> Field
+    requires { ⌜ Fit part × (address < part .size) ⌝ }
+    ensures { λ r. ⌜ r ≡ dataAfter part address ⌝ }
+{
+    Field::Data {
+        address: serial::address::next_address(part.size, address),
+        whole: true,
+    }
+}
+
+// The phase after the last bit of a data byte of WRITE: a part that stores late has yet to store it.
+fn phase_after_data(part: Part, address: u32, byte: u8) -> Phase
+    requires { ⌜ Fit part × (address < part .size) ⌝ }
+    ensures { λ r. ⌜ r ≡ phaseAfterData part address byte ⌝ }
+{
+    if part.late {
+        Phase::Pending { address, byte }
+    } else {
+        taking(data_after(part, address))
+    }
+}
+
 // The phase after the last bit of a field.
 fn phase_after_field(part: Part, field: Field, value: u32) -> Phase
     requires { ⌜ Fit part × FieldIn part field × (value < 2 ^ width part field) ⌝ }
@@ -71,10 +94,7 @@ fn phase_after_field(part: Part, field: Field, value: u32) -> Phase
             whole: false,
         }),
         Field::Dummy { address } => showing(Source::Memory { address }),
-        Field::Data { address, whole: _ } => taking(Field::Data {
-            address: serial::address::next_address(part.size, address),
-            whole: true,
-        }),
+        Field::Data { address, whole: _ } => phase_after_data(part, address, value as u8),
         Field::StatusByte => waiting(Action::WriteStatus { byte: value as u8 }),
     }
 }
@@ -116,6 +136,19 @@ fn take_bit(part: Part, field: Field, count: u8, value: u32, si: bool) -> Phase
     }
 }
 
+// The first bit of the data byte after one at this address. `take_bit` would do too, but a second call keeps the compiler from putting it
+// into the loop.
+fn begin_next(part: Part, address: u32, si: bool) -> Phase
+    requires { ⌜ Fit part × (address < part .size) ⌝ }
+    ensures { λ r. ⌜ r ≡ afterTaken part (dataAfter part address) 0 0 si ⌝ }
+{
+    Phase::Taking {
+        field: data_after(part, address),
+        count: 1,
+        value: serial::bits::shift_in(0, si),
+    }
+}
+
 // One bit further in what is shown.
 fn show_bit(part: Part, source: Source, bit: u8) -> Phase
     requires { ⌜ Fit part × ShowingIn part source bit ⌝ }
@@ -146,5 +179,6 @@ pub fn after_rise(part: Part, phase: Phase, si: bool) -> Phase
         } => take_bit(part, field, count, value, si),
         Phase::Showing { source, bit } => show_bit(part, source, bit),
         Phase::Waiting { action: _ } => phase,
+        Phase::Pending { address, byte: _ } => begin_next(part, address, si),
     }
 }

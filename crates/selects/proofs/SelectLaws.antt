@@ -2,7 +2,7 @@
 -- steps, from the head and from the rest. Assumes nothing.
 use Prim.Native.Nat.{ℕ, zero, suc, _+_, _-_, _/_, _%_, _<_, _≤_}
 use mathlib.Core.Path.{_≡_, refl, sym, ap, ap₂, _∙_, subst}
-use mathlib.Core.Bool.{Bool, true, false, cond}
+use mathlib.Core.Bool.{Bool, true, false, cond, false≢true}
 use mathlib.Core.List.{List, [], _∷_, _++_}
 use native.Mathlib.Omega.{arith}
 use lib.Dec.{ltb, eqb}
@@ -17,12 +17,14 @@ use Rattle.parts.proofs.Rows.{and-both, part-fits, bytewise, identity-bytes}
 use Rattle.selection.specs.declared.phase.Field.{Field}
 use Rattle.selection.specs.declared.phase.Field.the-variants.{Opcode, ReadAddress, FastAddress, WriteAddress, Dummy, Data, StatusByte}
 use Rattle.selection.specs.declared.phase.Phase.{Phase}
-use Rattle.selection.specs.declared.phase.Phase.the-variants.{Rest, Ignoring, Taking, Showing, Waiting}
+use Rattle.selection.specs.declared.phase.Phase.the-variants.{Rest, Ignoring, Taking, Showing, Waiting, Pending}
 use Rattle.selection.specs.declared.phase.Source.the-variants.{Memory, Register, Identity}
 use Rattle.selection.specs.Ranges.{PhaseIn}
 use Rattle.serial.specs.Bits.{bitAt}
+use Rattle.serial.specs.Write.{applied}
 use Rattle.spi.specs.declared.sample.Spi.{Spi}
 use Rattle.spi.specs.Sample.{selected}
+use Rattle.spi.specs.Store.{endWrite}
 use Rattle.spi.proofs.Keeps.{selected-in}
 use Rattle.spi_status.specs.Deselect.{statusAfter, asleepAfter}
 use Rattle.chip.specs.declared.model.BusState.{BusState}
@@ -33,12 +35,12 @@ use Rattle.chip.specs.Model.{modelOf}
 use Rattle.chip.proofs.CheckLaws.{SoundIn, sound-in}
 use Rattle.byte_path.specs.declared.head.Head.{Head}
 use Rattle.byte_path.specs.PinPath.{Back, lastSi, bytesOf, firstDriven, drivenCount, Selection, selectionOf}
-use Rattle.byte_path.specs.ByBytes.{AtBorder, undriven, phaseAfterBytes, memoryAfterBytes, backAfterBytes, endLevels, byBytes}
+use Rattle.byte_path.specs.ByBytes.{AtBorder, undriven, phaseAfterBytes, backAfterBytes, endLevels, byBytes}
 use Rattle.byte_path.specs.Head.{isHead, headFrom, Bordered}
 use Rattle.byte_rest.specs.Rest.{restBack, restMemory, phaseEnd}
 use Rattle.byte_path.proofs.ByteLaws.{AllBytes}
 use Rattle.byte_path.proofs.ByBytes.{EachByte, first-border, by-bytes}
-use Rattle.byte_rest.proofs.RestLaws.{Ends, over-back, over-memory, over-ends, Headed, headed}
+use Rattle.byte_rest.proofs.RestLaws.{memoryEnded, waits, Ends, over-back, over-memory, over-ends, Headed, headed}
 use Rattle.byte_rest.proofs.BackLaws.{quiet-bytes, quiet-first, quiet-count, Leading, all-quiet, memory-leading, register-leading, identity-leading}
 
 -- a slice of bytes, byte by byte
@@ -75,22 +77,23 @@ module _ (out : List ℕ) (n : ℕ) (l : n ≤ length out) where
 -- ---- the rest, whether the head was whole or not
 
 module _ (p : Part) (st : Status) where
-  none-memory : (ph : Phase) (m : List ℕ) → m ≡ restMemory p st m ph []
-  none-memory Rest m = refl
-  none-memory Ignoring m = refl
-  none-memory (Taking Opcode n v) m = refl
-  none-memory (Taking ReadAddress n v) m = refl
-  none-memory (Taking FastAddress n v) m = refl
-  none-memory (Taking WriteAddress n v) m = refl
-  none-memory (Taking (Dummy a) n v) m = refl
-  none-memory (Taking (Data a y) n v) m = by (st .wel)
+  none-memory : (ph : Phase) (m : List ℕ) → waits ph ≡ false → memoryEnded p st ph m [] ≡ restMemory p st m ph []
+  none-memory Rest m u = refl
+  none-memory Ignoring m u = refl
+  none-memory (Taking Opcode n v) m u = refl
+  none-memory (Taking ReadAddress n v) m u = refl
+  none-memory (Taking FastAddress n v) m u = refl
+  none-memory (Taking WriteAddress n v) m u = refl
+  none-memory (Taking (Dummy a) n v) m u = refl
+  none-memory (Taking (Data a y) n v) m u = by (st .wel)
     where
       by : (t : Bool) → m ≡ cond t m m
       by true = refl
       by false = refl
-  none-memory (Taking StatusByte n v) m = refl
-  none-memory (Showing s k) m = refl
-  none-memory (Waiting a) m = refl
+  none-memory (Taking StatusByte n v) m u = refl
+  none-memory (Showing s k) m u = refl
+  none-memory (Waiting a) m u = refl
+  none-memory (Pending v a) m u = absurd (false≢true (sym u))
 
   none-back : (ph : Phase) (m : List ℕ) → [] ≡ restBack p st m ph 0
   none-back Rest m = refl
@@ -98,6 +101,7 @@ module _ (p : Part) (st : Status) where
   none-back (Taking f n v) m = refl
   none-back (Showing s k) m = refl
   none-back (Waiting a) m = refl
+  none-back (Pending v a) m = refl
 
   none-end : (ph : Phase) → ph ≡ phaseEnd ph false
   none-end Rest = refl
@@ -111,19 +115,20 @@ module _ (p : Part) (st : Status) where
   none-end (Taking StatusByte n v) = refl
   none-end (Showing s k) = refl
   none-end (Waiting a) = refl
+  none-end (Pending v a) = refl
 
   -- by the number of bytes
   pub record Rests (wp z : Bool) (ph : Phase) (m vs : List ℕ) : Type 0 where
     pub back : backAfterBytes p st ph m vs ≡ restBack p st m ph (length vs)
-    pub memory : memoryAfterBytes p st ph m vs ≡ restMemory p st m ph vs
+    pub memory : memoryEnded p st ph m vs ≡ restMemory p st m ph vs
     pub ends : Ends p st wp z (phaseAfterBytes p st ph vs) (phaseEnd ph (ltb 0 (length vs)))
 
-  rests : (wp z : Bool) (ph : Phase) (m vs : List ℕ) → AtBorder p ph → (0 < length vs → isHead ph ≡ false) → length m ≡ p .size → Rests wp z ph m vs
-  rests wp z ph m [] b o l =
-      record { back = none-back ph m; memory = none-memory ph m; ends = record { status = ap (statusAfter st wp) (none-end ph); asleep = ap (asleepAfter z) (none-end ph) } }
-  rests wp z ph m (v ∷ vs) b o l =
+  rests : (wp z : Bool) (ph : Phase) (m vs : List ℕ) → AtBorder p ph → (0 < length vs → isHead ph ≡ false) → waits ph ≡ false → length m ≡ p .size → Rests wp z ph m vs
+  rests wp z ph m [] b o u l =
+      record { back = none-back ph m; memory = none-memory ph m u; ends = record { status = ap (statusAfter st wp) (none-end ph); asleep = ap (asleepAfter z) (none-end ph) } }
+  rests wp z ph m (v ∷ vs) b o u l =
       let n = o (omega arith) in
-      record { back = over-back p st ph (v ∷ vs) m b n; memory = over-memory p st ph (v ∷ vs) m b n l; ends = over-ends p st wp z ph (v ∷ vs) b n }
+      record { back = over-back p st ph (v ∷ vs) m b n; memory = over-memory p st ph (v ∷ vs) m b n u l; ends = over-ends p st wp z ph (v ∷ vs) b n }
 
   -- the driven bytes of the rest come first
   rest-leading : (m : List ℕ) (ph : Phase) (n : ℕ) → PhaseIn p ph
@@ -135,6 +140,7 @@ module _ (p : Part) (st : Status) where
   rest-leading m (Showing Register k) n h = let l = register-leading p st m n in rw (l .count) (l .first)
   rest-leading m (Showing (Identity i) k) n h = let l = identity-leading p st m n i (h .source) in rw (l .count) (l .first)
   rest-leading m (Waiting a) n h = let l = all-quiet n in rw (l .count) (l .first)
+  rest-leading m (Pending v a) n h = let l = all-quiet n in rw (l .count) (l .first)
 
 -- ---- the whole
 
@@ -153,6 +159,11 @@ left-test n k l = by (ltb n k) refl
     by : (t : Bool) → ltb n k ≡ t → ltb 0 (k - n) ≡ t
     by true e = lt-ltb 0 (k - n) (omega (arith, ltb-true n k e))
     by false e = le-ltb 0 (k - n) (omega (arith, ltb-false n k e))
+
+-- no data byte waits when CS# has fallen
+first-settled : (z : Bool) → waits (selected z) ≡ false
+first-settled true = refl
+first-settled false = refl
 
 module _ (part pins : ℕ) (st : Status) (x : Spi) (m input : List ℕ) (wp : Bool) where
   abbrev row : Part
@@ -182,7 +193,7 @@ module _ (part pins : ℕ) (st : Status) (x : Spi) (m input : List ℕ) (wp : Bo
       let h = headed row st input (selected (x .asleep)) m each b in
       let vs = drop (head .at) input in
       let n : length vs ≡ length input - head .at = length-drop (head .at) input in
-      let r = rests row st wp (x .asleep) (head .phase) m vs (h .bordered .border) (λ k. h .over (omega (arith, n))) l in
+      let r = rests row st wp (x .asleep) (head .phase) m vs (h .bordered .border) (λ k. h .over (omega (arith, n))) (h .settled (first-settled (x .asleep))) l in
       let sum : head .at + (length input - head .at) ≡ length input = omega (arith, h .within) in
       let some : ltb 0 (length vs) ≡ ltb (head .at) (length input) = ap (ltb 0) n ∙ left-test (head .at) (length input) (h .within) in
       let whole : backAfterBytes row st (selected (x .asleep)) m input ≡ replicate (head .at) undriven ++ backs =
@@ -193,7 +204,7 @@ module _ (part pins : ℕ) (st : Status) (x : Spi) (m input : List ℕ) (wp : Bo
       sym (ap (asleepAfter (x .asleep)) (h .phase) ∙ r .ends .asleep ∙ ap (λ (t : Bool). asleepAfter (x .asleep) (phaseEnd (head .phase) t)) some) in
       record {
         model = rw (s, z);
-        memory = sym (h .memory ∙ r .memory);
+        memory = sym (ap₂ (λ (e : Phase) (k : List ℕ). applied (endWrite row st e) k) (h .phase) (h .memory) ∙ r .memory);
         output = sym (ap bytesOf whole ∙ quiet-bytes (head .at) backs);
         first = sym (ap firstDriven whole ∙ quiet-first (head .at) backs ∙ rw (rest-leading row st m (head .phase) (length input - head .at) (h .bordered .inside))
             (after-quiet (head .at) (length input - head .at) (drivenCount backs) ∙ ap (λ (k : ℕ). cond (eqb (drivenCount backs) 0) k (head .at)) sum));

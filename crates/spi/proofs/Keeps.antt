@@ -29,12 +29,12 @@ use Rattle.selection.specs.declared.phase.Field.the-variants.{Opcode, ReadAddre
 use Rattle.selection.specs.declared.phase.Source.{Source}
 use Rattle.selection.specs.declared.phase.Source.the-variants.{Memory, Register, Identity}
 use Rattle.selection.specs.declared.phase.Phase.{Phase}
-use Rattle.selection.specs.declared.phase.Phase.the-variants.{Rest, Ignoring, Taking, Showing, Waiting}
+use Rattle.selection.specs.declared.phase.Phase.the-variants.{Rest, Ignoring, Taking, Showing, Waiting, Pending}
 use Rattle.spi.specs.declared.sample.Spi.{Spi}
 use Rattle.selection.specs.Edge.{edgeOf}
 use Rattle.selection.specs.Opcode.{commandOf}
-use Rattle.selection.specs.Phase.{width, phaseAfterOpcode, phaseAfterField, nextSource, afterTaken, afterShown, afterRise}
-use Rattle.spi.specs.Store.{fieldWrite, dataWrite, permitted, riseWrite}
+use Rattle.selection.specs.Phase.{width, phaseAfterOpcode, dataAfter, phaseAfterField, nextSource, afterTaken, afterShown, afterRise}
+use Rattle.spi.specs.Store.{fieldWrite, dataWrite, permitted, finishedWrite, riseWrite, endWrite}
 use Rattle.selection.specs.Ranges.{FieldIn, SourceIn, TakingIn, ShowingIn, PhaseIn}
 use Rattle.spi.specs.Sample.{selected, stepOn, stepOf, Ready}
 
@@ -69,13 +69,21 @@ module _ (p : Part) (fit : Fit p) where
   after-opcode-in SLEEP = tt
   after-opcode-in Unknown = tt
 
+  -- the data byte after one
+  data-after-in : (a : ℕ) → TakingIn p (dataAfter p a) 0 0
+  data-after-in a = taking-in (dataAfter p a) (next-within (p .size) a (fit .positive))
+
   pub after-field-in : (f : Field) (v : ℕ) → FieldIn p f → PhaseIn p (phaseAfterField p f v)
   after-field-in Opcode v h = after-opcode-in (commandOf p v)
   after-field-in ReadAddress v h = showing-in (Memory _) (mod-lt v (fit .positive))
   after-field-in FastAddress v h = taking-in (Dummy _) (mod-lt v (fit .positive))
   after-field-in WriteAddress v h = taking-in (Data _ false) (mod-lt v (fit .positive))
   after-field-in (Dummy a) v h = showing-in (Memory a) h
-  after-field-in (Data a w) v h = taking-in (Data _ true) (next-within (p .size) a (fit .positive))
+  after-field-in (Data a w) v h = by (p .late) refl
+    where
+      by : (t : Bool) → p .late ≡ t → PhaseIn p (cond t (Pending v a) (Taking (dataAfter p a) 0 0))
+      by true e = record { late = e; address = h }
+      by false e = data-after-in a
   after-field-in StatusByte v h = tt
 
   taken-in : (f : Field) (n v : ℕ) (b : Bool) → TakingIn p f n v → PhaseIn p (afterTaken p f n v b)
@@ -107,6 +115,7 @@ module _ (p : Part) (fit : Fit p) where
   rise-in (Taking f n v) b h = taken-in f n v b h
   rise-in (Showing s k) b h = shown-in s k h
   rise-in (Waiting a) b h = tt
+  rise-in (Pending v a) b h = taken-in (dataAfter p a) 0 0 b (data-after-in a)
 
   pub selected-in : (z : Bool) → PhaseIn p (selected z)
   selected-in true = tt
@@ -114,19 +123,26 @@ module _ (p : Part) (fit : Fit p) where
 
   -- ---- what is written
 
-  permitted-within : (st : Status) (a v : ℕ) → a < p .size → Within (p .size) (permitted p st a v)
+  pub permitted-within : (st : Status) (a v : ℕ) → a < p .size → Within (p .size) (permitted p st a v)
   permitted-within st a v h = by (st .wel && ltb a (protectedStart st p))
     where
       by : (t : Bool) → Within (p .size) (cond t (Byte a v) Nothing)
       by true = h
       by false = tt
 
+  finished-within : (st : Status) (a v : ℕ) → a < p .size → Within (p .size) (finishedWrite p st a v)
+  finished-within st a v h = by (p .late)
+    where
+      by : (t : Bool) → Within (p .size) (cond t Nothing (permitted p st a v))
+      by true = tt
+      by false = permitted-within st a v h
+
   data-within : (st : Status) (a n v : ℕ) (b : Bool) → a < p .size → Within (p .size) (dataWrite p st a n v b)
   data-within st a n v b h = by (ltb n 7)
     where
-      by : (t : Bool) → Within (p .size) (cond t Nothing (permitted p st a (shifted v b)))
+      by : (t : Bool) → Within (p .size) (cond t Nothing (finishedWrite p st a (shifted v b)))
       by true = tt
-      by false = permitted-within st a (shifted v b) h
+      by false = finished-within st a (shifted v b) h
 
   field-within : (st : Status) (f : Field) (n v : ℕ) (b : Bool) → FieldIn p f → Within (p .size) (fieldWrite p st f n v b)
   field-within st Opcode n v b h = tt
@@ -143,6 +159,15 @@ module _ (p : Part) (fit : Fit p) where
   rise-within st (Taking f n v) b h = field-within st f n v b (h .field)
   rise-within st (Showing s k) b h = tt
   rise-within st (Waiting a) b h = tt
+  rise-within st (Pending v a) b h = permitted-within st a v (h .address)
+
+  pub end-within : (st : Status) (ph : Phase) → PhaseIn p ph → Within (p .size) (endWrite p st ph)
+  end-within st Rest h = tt
+  end-within st Ignoring h = tt
+  end-within st (Taking f n v) h = tt
+  end-within st (Showing s k) h = tt
+  end-within st (Waiting a) h = tt
+  end-within st (Pending v a) h = permitted-within st a v (h .address)
 
 -- ---- one sample
 
@@ -156,7 +181,7 @@ module _ (p : Part) (st : Status) (s : Spi) (l : Levels) (m : List ℕ) (r : Rea
 
   on-within : (e : Edge) → Within (p .size) (stepOn e p st s l m .write)
   on-within Select = tt
-  on-within Deselect = tt
+  on-within Deselect = end-within p (r .fit) st (s .phase) (r .inside)
   on-within (Rise b) = rise-within p (r .fit) st (s .phase) b (r .inside)
   on-within Fall = tt
   on-within Quiet = tt

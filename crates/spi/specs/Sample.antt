@@ -20,7 +20,7 @@ use Rattle.selection.specs.declared.phase.Phase.the-variants.{Rest, Ignoring, T
 use Rattle.spi.specs.declared.sample.Spi.{Spi}
 use Rattle.selection.specs.Edge.{edgeOf}
 use Rattle.selection.specs.Phase.{afterRise}
-use Rattle.spi.specs.Store.{riseWrite}
+use Rattle.spi.specs.Store.{riseWrite, endWrite}
 use Rattle.spi.specs.Show.{afterFall, answerAt}
 use Rattle.spi_status.specs.Deselect.{statusAfter, asleepAfter}
 use Rattle.selection.specs.Ranges.{PhaseIn}
@@ -45,7 +45,7 @@ stepTo st l z shown ph w =
 -- what an edge does, with the levels l and a memory that the part may read
 abbrev pub stepOn : Edge → Part → Status → Spi → Levels → List ℕ → Outcome
 stepOn Select p st s l m = stepTo st l (s .asleep) HighZ (selected (s .asleep)) Nothing
-stepOn Deselect p st s l m = stepTo (statusAfter st (l .wp) (s .phase)) l (asleepAfter (s .asleep) (s .phase)) HighZ Rest Nothing
+stepOn Deselect p st s l m = stepTo (statusAfter st (l .wp) (s .phase)) l (asleepAfter (s .asleep) (s .phase)) HighZ Rest (endWrite p st (s .phase))
 stepOn (Rise b) p st s l m = stepTo st l (s .asleep) (s .shown) (afterRise p (s .phase) b) (riseWrite p st (s .phase) b)
 stepOn Fall p st s l m = stepTo st l (s .asleep) (afterFall p st m (s .phase) (s .shown)) (s .phase) Nothing
 stepOn Quiet p st s l m = stepTo st l (s .asleep) (s .shown) (s .phase) Nothing

@@ -16,7 +16,7 @@ use Rattle.selection.specs.declared.levels.Levels.{Levels}
 use Rattle.selection.specs.declared.phase.Source.{Source}
 use Rattle.selection.specs.declared.phase.Source.the-variants.{Memory, Register, Identity}
 use Rattle.selection.specs.declared.phase.Phase.{Phase}
-use Rattle.selection.specs.declared.phase.Phase.the-variants.{Rest, Ignoring, Taking, Showing, Waiting}
+use Rattle.selection.specs.declared.phase.Phase.the-variants.{Rest, Ignoring, Taking, Showing, Waiting, Pending}
 
 -- bit 7 - k of what a source shows; after the third identity byte nothing is driven (own choice)
 abbrev pub shownBit : Part → Status → List ℕ → Source → ℕ → Answer
@@ -31,6 +31,7 @@ afterFall p st m Ignoring old = old
 afterFall p st m (Taking f n v) old = old
 afterFall p st m (Showing s k) old = shownBit p st m s k
 afterFall p st m (Waiting a) old = old
+afterFall p st m (Pending v a) old = old
 
 -- an unselected or held part drives nothing; a hold leaves what is shown, so that the same bit is back after it
 abbrev pub answerAt : Levels → Answer → Answer

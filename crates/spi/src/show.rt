@@ -54,6 +54,10 @@ pub fn after_fall(part: Part, status: Status, memory: &[u8], phase: Phase, shown
         } => shown,
         Phase::Showing { source, bit } => shown_bit(part, status, memory, source, bit),
         Phase::Waiting { action: _ } => shown,
+        Phase::Pending {
+            address: _,
+            byte: _,
+        } => shown,
     }
 }
 

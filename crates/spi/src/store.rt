@@ -1,7 +1,7 @@
 // What WRITE stores.
 ghost use mathlib.Core.Path.{_≡_};
 ghost use Prim.Native.Nat.{_<_, _^_};
-ghost use Rattle.spi.specs.Store.{permitted, dataWrite, fieldWrite, riseWrite};
+ghost use Rattle.spi.specs.Store.{permitted, finishedWrite, dataWrite, fieldWrite, riseWrite, endWrite};
 ghost use Rattle.selection.specs.Ranges.{TakingIn, PhaseIn};
 use parts::part::Part;
 use parts::status::Status;
@@ -10,7 +10,7 @@ use selection::phase::Phase;
 use serial::write::Write;
 
 // A whole data byte of WRITE, which is written with WEL set and below the protected start.
-fn permit(part: Part, status: Status, address: u32, value: u8) -> Write
+pub fn permit(part: Part, status: Status, address: u32, value: u8) -> Write
     ensures { λ r. ⌜ r ≡ permitted part status address value ⌝ }
 {
     if address < status.protected_start(part) {
@@ -24,6 +24,17 @@ fn permit(part: Part, status: Status, address: u32, value: u8) -> Write
     }
 }
 
+// A finished data byte: a part that stores late writes nothing yet.
+fn finished_write(part: Part, status: Status, address: u32, value: u8) -> Write
+    ensures { λ r. ⌜ r ≡ finishedWrite part status address value ⌝ }
+{
+    if part.late {
+        Write::Nothing
+    } else {
+        permit(part, status, address, value)
+    }
+}
+
 // One bit more of a data byte.
 fn data_write(part: Part, status: Status, address: u32, count: u8, value: u32, si: bool) -> Write
     requires { ⌜ (count < 8) × (value < 2 ^ count) ⌝ }
@@ -32,7 +43,7 @@ fn data_write(part: Part, status: Status, address: u32, count: u8, value: u32, s
     if count < 7 {
         Write::Nothing
     } else {
-        permit(
+        finished_write(
             part,
             status,
             address,
@@ -71,5 +82,24 @@ pub fn rise_write(part: Part, status: Status, phase: Phase, si: bool) -> Write
         } => field_write(part, status, field, count, value, si),
         Phase::Showing { source: _, bit: _ } => Write::Nothing,
         Phase::Waiting { action: _ } => Write::Nothing,
+        Phase::Pending { address, byte } => permit(part, status, address, byte),
+    }
+}
+
+// What CS# rising writes: a data byte that waits.
+pub fn end_write(part: Part, status: Status, phase: Phase) -> Write
+    ensures { λ r. ⌜ r ≡ endWrite part status phase ⌝ }
+{
+    match phase {
+        Phase::Rest => Write::Nothing,
+        Phase::Ignoring => Write::Nothing,
+        Phase::Taking {
+            field: _,
+            count: _,
+            value: _,
+        } => Write::Nothing,
+        Phase::Showing { source: _, bit: _ } => Write::Nothing,
+        Phase::Waiting { action: _ } => Write::Nothing,
+        Phase::Pending { byte, address } => permit(part, status, address, byte),
     }
 }

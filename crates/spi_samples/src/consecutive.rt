@@ -38,10 +38,11 @@ pub fn spi_samples(
     let mut last = selection::levels::sample_of(spi.last);
     let mut asleep = spi.asleep;
     let mut shown = spi.shown;
-    let mut phase = spi.phase;
-    // the bits of what the phase takes or shows, in the place of its own, and how many of them come before the last
-    let mut bits = phase_bits::field::bits_of(phase);
-    let mut value = phase_bits::field::value_of(phase);
+    // the bits of what the phase takes or shows, in the place of its own, and how many of them come before the one that does more
+    let given = spi.phase;
+    let mut phase = phase_bits::field::kept_of(given);
+    let mut bits = phase_bits::field::bits_of(given);
+    let mut value = phase_bits::field::value_of(given);
     let mut early = phase_bits::field::early_of(part, phase);
     let end = samples::progress::latest(trace.len(), quota, first, start);
     let mut count = first;
@@ -61,8 +62,10 @@ pub fn spi_samples(
                 shown = Answer::HighZ;
             }
             Edge::Deselect => {
-                status = spi_status::deselect::status_after(status, levels.wp, phase);
-                asleep = spi_status::deselect::asleep_after(asleep, phase);
+                let whole = phase_bits::field::with_bits(phase, bits, value);
+                crate::turn::end(part, status, whole, &mut *memory);
+                status = spi_status::deselect::status_after(status, levels.wp, whole);
+                asleep = spi_status::deselect::asleep_after(asleep, whole);
                 phase = Phase::Rest;
                 early = phase_bits::field::early_of(part, phase);
                 shown = Answer::HighZ;
@@ -73,10 +76,10 @@ pub fn spi_samples(
                     value = serial::bits::shift_in(value, si);
                 } else {
                     let whole = phase_bits::field::with_bits(phase, bits, value);
-                    phase = crate::turn::rise(part, status, whole, si, &mut *memory);
+                    phase = crate::turn::rise(part, status, phase, bits, value, si, &mut *memory);
+                    bits = phase_bits::field::next_bits(whole);
+                    value = phase_bits::field::next_value(whole, si);
                     early = phase_bits::field::early_of(part, phase);
-                    bits = 0;
-                    value = 0;
                 }
             }
             Edge::Fall => {

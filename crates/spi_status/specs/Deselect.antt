@@ -9,7 +9,7 @@ use Rattle.selection.specs.declared.phase.Field.the-variants.{Opcode, ReadAddre
 use Rattle.selection.specs.declared.phase.Action.{Action}
 use Rattle.selection.specs.declared.phase.Action.the-variants.{SetLatch, ClearLatch, FallAsleep, WriteStatus}
 use Rattle.selection.specs.declared.phase.Phase.{Phase}
-use Rattle.selection.specs.declared.phase.Phase.the-variants.{Rest, Ignoring, Taking, Showing, Waiting}
+use Rattle.selection.specs.declared.phase.Phase.the-variants.{Rest, Ignoring, Taking, Showing, Waiting, Pending}
 
 -- SRWD, BP1 and BP0 by bits 7, 3 and 2 of a byte, with WEL cleared
 abbrev pub takenStatus : ℕ → Status
@@ -45,6 +45,26 @@ statusAfter st wp Ignoring = st
 statusAfter st wp (Taking f n v) = fieldStatus st f
 statusAfter st wp (Showing s k) = st
 statusAfter st wp (Waiting a) = actionStatus st wp a
+statusAfter st wp (Pending v a) = withWel st false
+
+-- whether a WRITE had a whole data byte. This only says how the code asks: as CS# rises it clears WEL then, and where nothing waited for
+-- that leaves the register else (`data-ends` in `proofs/SleepLaws.antt`)
+abbrev pub hadField : Field → Bool
+hadField Opcode = false
+hadField ReadAddress = false
+hadField FastAddress = false
+hadField WriteAddress = false
+hadField (Dummy a) = false
+hadField (Data a whole) = whole
+hadField StatusByte = false
+
+abbrev pub hadData : Phase → Bool
+hadData Rest = false
+hadData Ignoring = false
+hadData (Taking f n v) = hadField f
+hadData (Showing s k) = false
+hadData (Waiting a) = false
+hadData (Pending v a) = true
 
 abbrev pub isSleep : Action → Bool
 isSleep SetLatch = false
@@ -58,6 +78,7 @@ sleeps Ignoring = false
 sleeps (Taking f n v) = false
 sleeps (Showing s k) = false
 sleeps (Waiting a) = isSleep a
+sleeps (Pending v a) = false
 
 -- whether the part sleeps once CS# has risen: a whole SLEEP puts it to sleep, and the end of the selection that it slept through wakes
 -- it (own choice; sheet 000 gives a time)

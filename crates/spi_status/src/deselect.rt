@@ -1,6 +1,6 @@
 // What CS# rising does to the status register and to sleep.
 ghost use mathlib.Core.Path.{_≡_};
-ghost use Rattle.spi_status.specs.Deselect.{takenStatus, writtenStatus, actionStatus, fieldStatus, statusAfter, isSleep, asleepAfter};
+ghost use Rattle.spi_status.specs.Deselect.{takenStatus, writtenStatus, actionStatus, statusAfter, hadField, hadData, isSleep, asleepAfter};
 use parts::status::Status;
 use selection::phase::Action;
 use selection::phase::Field;
@@ -48,24 +48,38 @@ fn action_status(status: Status, wp: bool, action: Action) -> Status
     }
 }
 
-// WEL after a WRITE selection: dropped if there was a whole data byte.
-fn field_status(status: Status, field: Field) -> Status
-    ensures { λ r. ⌜ r ≡ fieldStatus status field ⌝ }
+fn had_field(field: Field) -> bool
+    ensures { λ r. ⌜ r ≡ hadField field ⌝ }
 {
     match field {
-        Field::Opcode => status,
-        Field::ReadAddress => status,
-        Field::FastAddress => status,
-        Field::WriteAddress => status,
-        Field::Dummy { address: _ } => status,
-        Field::Data { address: _, whole } => {
-            if whole {
-                status.with_wel(false)
-            } else {
-                status
-            }
-        }
-        Field::StatusByte => status,
+        Field::Opcode => false,
+        Field::ReadAddress => false,
+        Field::FastAddress => false,
+        Field::WriteAddress => false,
+        Field::Dummy { address: _ } => false,
+        Field::Data { address: _, whole } => whole,
+        Field::StatusByte => false,
+    }
+}
+
+// Whether a WRITE had a whole data byte.
+fn had_data(phase: Phase) -> bool
+    ensures { λ r. ⌜ r ≡ hadData phase ⌝ }
+{
+    match phase {
+        Phase::Rest => false,
+        Phase::Ignoring => false,
+        Phase::Taking {
+            field,
+            count: _,
+            value: _,
+        } => had_field(field),
+        Phase::Showing { source: _, bit: _ } => false,
+        Phase::Waiting { action: _ } => false,
+        Phase::Pending {
+            address: _,
+            byte: _,
+        } => true,
     }
 }
 
@@ -73,17 +87,14 @@ fn field_status(status: Status, field: Field) -> Status
 pub fn status_after(status: Status, wp: bool, phase: Phase) -> Status
     ensures { λ r. ⌜ r ≡ statusAfter status wp phase ⌝ }
 {
-    match phase {
-        Phase::Rest => status,
-        Phase::Ignoring => status,
-        Phase::Taking {
-            field,
-            count: _,
-            value: _,
-        } => field_status(status, field),
-        Phase::Showing { source: _, bit: _ } => status,
-        Phase::Waiting { action } => action_status(status, wp, action),
-    }
+    let Phase::Waiting { action } = phase else {
+        return if had_data(phase) {
+            status.with_wel(false)
+        } else {
+            status
+        };
+    };
+    action_status(status, wp, action)
 }
 
 fn is_sleep(action: Action) -> bool

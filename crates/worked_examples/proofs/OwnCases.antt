@@ -9,7 +9,7 @@ use Rattle.transfer.specs.Word.{wordOf}
 use Rattle.chip.specs.Check.{checkOf}
 use Rattle.model.specs.Make.{makeOf}
 use Rattle.worked_examples.specs.Cases.{Holds, Every}
-use Rattle.worked_examples.specs.OwnCases.{runCases, statusCases, protectedCases, topCases, wordCases, transferCases, ownCases}
+use Rattle.worked_examples.specs.OwnCases.{runCases, statusCases, protectedCases, lateCases, topCases, wordCases, transferCases, ownCases}
 use Rattle.worked_examples.proofs.Trail.{loopBy}
 use Rattle.worked_examples.proofs.Tests.{all, all-hold}
 
@@ -24,6 +24,10 @@ status-tested g = refl
 protected-tested : (g : ℕ → ℕ) → all g protectedCases ≡ true
 unfolding protectedCases protectedStart readOf commandOf wordOf checkOf makeOf loopBy
 protected-tested g = refl
+
+late-tested : (g : ℕ → ℕ) → all g lateCases ≡ true
+unfolding lateCases protectedStart readOf commandOf wordOf checkOf makeOf loopBy
+late-tested g = refl
 
 top-tested : (g : ℕ → ℕ) → all g topCases ≡ true
 unfolding topCases protectedStart readOf commandOf wordOf checkOf makeOf loopBy
@@ -46,12 +50,15 @@ own-cases = (
     (
       all-hold protectedCases protected-tested,
       (
-        all-hold topCases top-tested,
+        all-hold lateCases late-tested,
         (
-          all-hold wordCases word-tested,
+          all-hold topCases top-tested,
           (
-            all-hold transferCases transfer-tested,
-            tt,
+            all-hold wordCases word-tested,
+            (
+              all-hold transferCases transfer-tested,
+              tt,
+            ),
           ),
         ),
       ),

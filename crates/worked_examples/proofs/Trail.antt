@@ -123,6 +123,7 @@ fallBy p st f SpiPhases.Ignoring old = old
 fallBy p st f (SpiPhases.Taking g n v) old = old
 fallBy p st f (SpiPhases.Showing s k) old = shownBy p st f s k
 fallBy p st f (SpiPhases.Waiting a) old = old
+fallBy p st f (SpiPhases.Pending v a) old = old
 
 abbrev spiBy : SpiEdge.Edge → Part → Status → SpiState.Spi → SpiLevel.Levels → (ℕ → ℕ) → SpiSample.Outcome
 spiBy SpiEdges.Select p st s l f = SpiSample.stepOn SpiEdges.Select p st s l []
@@ -156,6 +157,7 @@ module _ (m : List ℕ) (f : ℕ → ℕ) (h : Reads m f) where
   fall-by p st (SpiPhases.Taking g n v) old = refl
   fall-by p st (SpiPhases.Showing s k) old = shown-by p st s k
   fall-by p st (SpiPhases.Waiting a) old = refl
+  fall-by p st (SpiPhases.Pending v a) old = refl
 
   spi-by : (e : SpiEdge.Edge) (p : Part) (st : Status) (s : SpiState.Spi) (l : SpiLevel.Levels) → SpiSample.stepOn e p st s l m ≡ spiBy e p st s l f
   spi-by SpiEdges.Select p st s l = refl

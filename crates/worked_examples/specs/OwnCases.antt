@@ -139,6 +139,44 @@ protectedCases =
     ∷ onPart0 (spiOn ++ wrsr 0x04 ++ acrossTwo 0xfff) (cell 0 0xbb ∷ [])
     ∷ []
 
+-- WREN, then a WRITE of bytes from an address on, up to the rise of its last bit
+abbrev pub opened : List ℕ → List ℕ → List Step
+opened address vs = spiOn ++ wren ++ sample 24 2 ++ sent 24 (0x02 ∷ (address ++ vs))
+
+-- on part 1: 5Ah to the address 5, then these steps and power off; and the bytes written
+abbrev pub waited : List Step → List Cell → Case
+waited steps cells = made 1 0 0 [] (opened (three 5) (0x5a ∷ []) ++ steps ++ powerOff) cells
+
+-- part 1 stores a data byte of WRITE at the next counted rise or as CS# rises, parts 0 and 2 with its eighth rise
+unfoldable pub lateCases : List Case
+lateCases =
+    -- power goes after the eighth rise, after the fall of SCK, and after rises that do not count: with HOLD# 0, or falling or rising
+    waited [] []
+    ∷ waited (sample 24 2) []
+    ∷ waited (sample 24 2 ++ held) []
+    ∷ waited (sample 24 2 ++ sample 10 2) []
+    ∷ waited (sample 24 2 ++ sample 8 2 ++ sample 26 2) []
+    -- after the next counted rise, whatever its bit; also if a hold comes before it
+    ∷ waited (entered 24 false) (cell 5 0x5a ∷ [])
+    ∷ waited (entered 24 true) (cell 5 0x5a ∷ [])
+    ∷ waited (held ++ entered 24 true) (cell 5 0x5a ∷ [])
+    -- after CS# has risen: with SCK high, with SCK rising in the same sample, with HOLD# 0
+    ∷ waited (sample 27 2) (cell 5 0x5a ∷ [])
+    ∷ waited (sample 24 2 ++ sample 27 2) (cell 5 0x5a ∷ [])
+    ∷ waited (sample 10 2 ++ sample 11 2) (cell 5 0x5a ∷ [])
+    -- WEL is cleared then, and READ sees the byte
+    ∷ waited (sample 27 2 ++ sample 25 2 ++ rdsr 0x00 ++ read (three 5) (0x5a ∷ [])) (cell 5 0x5a ∷ [])
+    -- two bytes from the top address on: the first is stored as the second begins, the second as CS# rises
+    ∷ made 1 0 0 [] (opened (three 0x1ffff) (0x5a ∷ 0xa5 ∷ []) ++ powerOff) (cell 0x1ffff 0x5a ∷ [])
+    ∷ made 1 0 0 [] (opened (three 0x1ffff) (0x5a ∷ 0xa5 ∷ []) ++ sample 27 2 ++ powerOff) (cell 0x1ffff 0x5a ∷ cell 0 0xa5 ∷ [])
+    -- a protected byte, and one without WREN
+    ∷ made 1 0 3 [] (opened (three 5) (0x5a ∷ []) ++ sample 27 2 ++ powerOff) []
+    ∷ made 1 0 0 [] (spiOn ++ command 24 (0x02 ∷ (three 5 ++ (0x5a ∷ []))) ++ powerOff) []
+    -- the other parts: power goes after the eighth rise, and the byte is stored
+    ∷ onPart0 (opened (two 5) (0x5a ∷ []) ++ powerOff) (cell 5 0x5a ∷ [])
+    ∷ made 2 0 0 [] (opened (three 5) (0x5a ∷ []) ++ powerOff) (cell 5 0x5a ∷ [])
+    ∷ []
+
 -- a write word, and two bytes from an address on, written and read again
 abbrev pub storedAndRead : ℕ → ℕ → List Step
 storedAndRead w a =
@@ -247,4 +285,4 @@ transferCases =
 
 -- all of them
 unfoldable pub ownCases : List (List Case)
-ownCases = runCases ∷ statusCases ∷ protectedCases ∷ topCases ∷ wordCases ∷ transferCases ∷ []
+ownCases = runCases ∷ statusCases ∷ protectedCases ∷ lateCases ∷ topCases ∷ wordCases ∷ transferCases ∷ []

@@ -81,9 +81,9 @@ halved = record { srwd = false; bp1 = true; bp0 = false; wel = false }
 abbrev pub onI2c : ℕ → Status → ℕ → Model
 onI2c part st a = modelOf part 0 st (I2cOn (i2cStart (I2cLevels.levelsOf 3) a))
 
--- part 0, and part 3 with an address of 0 in its buffer, in a phase
-abbrev pub inSpi : SpiPhase.Phase → Model
-inSpi ph = modelOf 0 0 cleared (SpiOn (record { last = SpiLevels.levelsOf 24; asleep = false; shown = HighZ; phase = ph }))
+-- an SPI part, and part 3 with an address of 0 in its buffer, in a phase
+abbrev pub inSpi : ℕ → SpiPhase.Phase → Model
+inSpi part ph = modelOf part 0 cleared (SpiOn (record { last = SpiLevels.levelsOf 24; asleep = false; shown = HighZ; phase = ph }))
 
 abbrev pub inI2c : I2cPhase.Phase → Model
 inI2c ph =
@@ -172,10 +172,10 @@ refusals =
     ∷ refusal (onI2c 3 cleared 0) 8192 (5 ∷ 0 ∷ []) 9
     ∷ []
 
--- 2: each number of a phase one past its range
+-- 2: each number of a phase one past its range, and a data byte that waits on a part that does not store late
 unfoldable pub outOfRange : List Refusal
 outOfRange =
-    map (λ ph. refusal (inSpi ph) 4096 (4 ∷ 25 ∷ []) 2)
+    map (λ ph. refusal (inSpi 0 ph) 4096 (4 ∷ 25 ∷ []) 2)
     (SpiPhases.Taking SpiFields.Opcode 8 0
     ∷ SpiPhases.Taking SpiFields.Opcode 7 128
     ∷ SpiPhases.Taking SpiFields.ReadAddress 16 0
@@ -190,6 +190,10 @@ outOfRange =
     ∷ SpiPhases.Showing SpiSources.Register 8
     ∷ SpiPhases.Showing (SpiSources.Memory 4096) 0
     ∷ SpiPhases.Showing (SpiSources.Identity 4) 0
+    ∷ SpiPhases.Pending 0 0
+    ∷ [])
+    ++ (refusal (inSpi 1 (SpiPhases.Pending 0 131072)) 131072 (4 ∷ 25 ∷ []) 2
+    ∷ refusal (inSpi 2 (SpiPhases.Pending 0 0)) 262144 (4 ∷ 25 ∷ []) 2
     ∷ [])
     ++ map (λ ph. refusal (inI2c ph) 8192 (4 ∷ 3 ∷ []) 2)
     (I2cPhases.Taking I2cFields.Word 9 0

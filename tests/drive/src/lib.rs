@@ -12,6 +12,7 @@ pub mod call;
 pub mod field;
 pub mod flags;
 pub mod held;
+pub mod late;
 pub mod lengths;
 pub mod loaded;
 pub mod made_up;
@@ -30,6 +31,7 @@ pub mod streams;
 pub mod tally;
 pub mod told;
 pub mod tried;
+pub mod waits;
 
 pub use twin::{Ran, Selected};
 

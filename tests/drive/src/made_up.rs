@@ -7,7 +7,7 @@ use twin::part::Wires;
 use twin::Part;
 
 /// Numbers near the phases that are none.
-const NONE: [u8; 6] = [0x02, 0x17, 0x1c, 0x23, 0x29, 0x34];
+const NONE: [u8; 6] = [0x02, 0x17, 0x1c, 0x23, 0x29, 0x35];
 
 /// A buffer of 32 bytes that is an image, or nearly one.
 pub fn image(rng: &mut Rng, part: &Part) -> Vec<u8> {

@@ -8,16 +8,21 @@ use twin::Part;
 pub const POWER: usize = 3;
 pub const PHASE: usize = 7;
 
-const SPI: [u8; 16] = [
+/// The phase in which a finished data byte of WRITE waits to be stored.
+pub const WAITING: u8 = 0x34;
+
+const SPI: [u8; 17] = [
     0x00, 0x01, 0x10, 0x11, 0x12, 0x13, 0x14, 0x15, 0x16, 0x20, 0x21, 0x22, 0x30, 0x31, 0x32, 0x33,
+    WAITING,
 ];
 const I2C: [u8; 7] = [0x00, 0x01, 0x18, 0x19, 0x1a, 0x1b, 0x28];
 
-/// Of each part those of the commands that it lacks: FSTRD (12h, 14h), RDID (22h) and SLEEP (32h).
+/// Of each part those of the commands that it lacks: FSTRD (12h, 14h), RDID (22h) and SLEEP (32h); and
+/// that of a byte that waits.
 const LACKED: [&[u8]; 5] = [
-    &[0x12, 0x14, 0x22, 0x32],
+    &[0x12, 0x14, 0x22, 0x32, WAITING],
     &[],
-    &[0x12, 0x14, 0x32],
+    &[0x12, 0x14, 0x32, WAITING],
     &[],
     &[],
 ];

@@ -106,7 +106,7 @@ fn many(part: &Part, rng: &mut Rng, memories: &mut Memories, draw: impl Fn(&mut 
 }
 
 /// The least number of images of each part whose bytes are changed.
-const IMAGES: [usize; 5] = [35, 48, 40, 22, 22];
+const IMAGES: [usize; 5] = [35, 51, 40, 22, 22];
 
 /// States of every phase that the part can come to.
 fn reached_states(part: &Part) -> Vec<Vec<u8>> {

@@ -5,6 +5,8 @@
 
 use drive::call::Call;
 use drive::tally::{refusals, Tally};
+use drive::waits::Waits;
+use drive::Making;
 use twin::gen::{self, Case, Knobs, Rng};
 use twin::PARTS;
 
@@ -20,14 +22,26 @@ fn compare(case: Case, rng: &mut Rng, tally: &mut Tally) {
     tally.add(&whole.trace, &agreed);
 }
 
+/// The least number of data bytes that wait in a thousand traces of part 1, and of what ends that.
+const WAITS: Waits = Waits {
+    reached: 1_700,
+    by_rise: 1_300,
+    by_cs: 380,
+    lost: 30,
+    held: 110,
+};
+
 /// Structured traces of a part, whose pins, bits, cuts, glitches, moves of WP and damage are drawn.
 fn structured(part: u32, traces: u64) {
     let mut rng = Rng::new(0xd1ff + u64::from(part));
-    let mut tally = Tally::default();
+    let (mut tally, mut waits) = (Tally::default(), Waits::default());
     for _ in 0..traces {
         let case = gen::case_of(&mut rng, part);
+        let making = Making::new(part, case.pins, case.bits);
+        waits.add(making, &case.trace);
         compare(case, &mut rng, &mut tally);
     }
+    waits.assert_least(part, WAITS);
     assert!(tally.accepted > 300 * traces, "{tally:?}");
     assert!(2 * tally.stored > traces, "{tally:?}");
     let unflagged = tally.traces - tally.flagged;

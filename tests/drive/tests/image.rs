@@ -6,6 +6,7 @@ use drive::ask::{Ask, Gave};
 use drive::held::Pair;
 use drive::mixed::Mixed;
 use drive::outcome::{LEFT, STATE};
+use drive::waits::Waits;
 use drive::{archive, good_makings, made, reached, Making};
 use std::collections::BTreeSet;
 use twin::gen::Rng;
@@ -37,9 +38,9 @@ impl Met {
     }
 }
 
-/// The kinds of calls: single events, runs, selections as bytes.
+/// The kinds of calls: single events, runs, selections as bytes; and the waits that single events met.
 #[derive(Debug, Default)]
-struct Kinds([Met; 3]);
+struct Kinds([Met; 3], Waits);
 
 impl Kinds {
     fn of(&mut self, ask: &Ask) -> &mut Met {
@@ -63,16 +64,28 @@ fn follow(making: Making, calls: u64, rng: &mut Rng, kinds: &mut Kinds) {
         });
         let stored = before.memory != pair.held.memory;
         kinds.of(&ask).add(&ask, &gave, stored);
+        if matches!(ask, Ask::Event(_)) {
+            kinds.1.step(&before.state, &pair.held.state);
+        }
         mixed.asked(&ask, &gave);
     }
 }
 
 /// Calls of a part.
-const CALLS: u64 = 30_000;
+const CALLS: u64 = 45_000;
 
 /// The least number of calls of each kind that store, and of single events and runs with a flag.
 const STORED: u64 = 30;
 const FLAGGED: u64 = 80;
+
+/// The least number of bytes that wait among single events, and of what ends that.
+const WAITS: Waits = Waits {
+    reached: 90,
+    by_rise: 70,
+    by_cs: 25,
+    lost: 1,
+    held: 8,
+};
 
 /// A model of each making of a part. Every number that a call can give is given.
 fn follow_part(part: u32) {
@@ -84,7 +97,8 @@ fn follow_part(part: u32) {
     for &making in &makings {
         follow(making, calls, &mut rng, &mut kinds);
     }
-    let Kinds([events, runs, selections]) = &kinds;
+    let Kinds([events, runs, selections], waits) = &kinds;
+    waits.assert_least(part, WAITS);
     let (own, selected, by_selections) = match PARTS[part as usize].wires {
         Wires::Spi => (vec![], BTreeSet::from([0, 12, 13]), STORED),
         Wires::I2c => (vec![10], BTreeSet::from([4]), 0),

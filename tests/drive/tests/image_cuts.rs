@@ -4,6 +4,8 @@
 
 use drive::ask::Ask;
 use drive::held::Held;
+use drive::late::{self, Write, LATE};
+use drive::phases::{PHASE, WAITING};
 use drive::{made, Making};
 use twin::gen::{self, Case, Rng};
 use twin::part::Wires;
@@ -19,6 +21,8 @@ struct Followed {
     powered: bool,
     /// Cuts that left another memory or other bits than the one before.
     changes: u64,
+    /// Cuts while a data byte waited.
+    waiting: u64,
 }
 
 impl Followed {
@@ -31,11 +35,13 @@ impl Followed {
             held,
             powered: false,
             changes: 0,
+            waiting: 0,
         }
     }
 
     /// A power off on a copy, which without power is refused and changes nothing.
-    fn cut(&self) {
+    fn cut(&mut self) {
+        self.waiting += u64::from(self.held.state[PHASE] == WAITING);
         let mut copy = self.held.clone();
         let gave = copy.ask(&Ask::Event(vec![3]));
         assert_eq!(gave.number, if self.powered { 0 } else { 7 });
@@ -51,15 +57,20 @@ impl Followed {
         assert!(same, "memory after {:x?}", self.held.state);
     }
 
-    /// One event, and a cut after it. A refused one is not the ledger's.
+    /// One event, and a cut after it.
     fn event(&mut self, event: &[u8]) {
+        self.take(event);
+        self.cut();
+    }
+
+    /// One event. A refused one is not the ledger's.
+    fn take(&mut self, event: &[u8]) {
         let gave = self.held.ask(&Ask::Event(event.to_vec()));
         if gave.number == 0 {
             let flag = self.feed(event, gave.result[0]);
             assert_eq!(gave.result[1], u8::from(flag), "{event:x?}");
             self.powered = event[0] != 3;
         }
-        self.cut();
     }
 
     /// An accepted event goes into the ledger; its flag.
@@ -99,9 +110,9 @@ impl Followed {
     }
 }
 
-/// A trace, on an SPI part with selections as bytes among its events; how often something changed, and
-/// how many selections were taken.
-fn follow(case: &Case, rng: &mut Rng) -> (u64, u64) {
+/// A trace, on an SPI part with selections as bytes among its events; how often something changed, how
+/// many selections were taken, and how many cuts came while a byte waited.
+fn follow(case: &Case, rng: &mut Rng) -> [u64; 3] {
     let making = Making::new(case.part, case.pins, case.bits);
     let spi = PARTS[case.part as usize].wires == Wires::Spi;
     let mut followed = Followed::new(making);
@@ -117,22 +128,53 @@ fn follow(case: &Case, rng: &mut Rng) -> (u64, u64) {
             taken += u64::from(followed.select(rng.chance(500), input));
         }
     }
-    (followed.changes, taken)
+    [followed.changes, taken, followed.waiting]
 }
 
-/// So many traces of a part.
+/// So many traces of a part. On part 1 many cuts come while a byte waits.
 fn follow_part(part: u32, traces: u64) {
     let mut rng = Rng::new(0x1c075 + u64::from(part));
-    let (mut changes, mut taken) = (0, 0);
+    let mut sum = [0; 3];
     for _ in 0..traces {
         let case = gen::case_of(&mut rng, part);
-        let (changed, selected) = follow(&case, &mut rng);
-        changes += changed;
-        taken += selected;
+        let more = follow(&case, &mut rng);
+        sum = [0, 1, 2].map(|at| sum[at] + more[at]);
     }
+    let [changes, taken, waiting] = sum;
     assert!(changes > traces, "only {changes} changes");
     let spi = PARTS[part as usize].wires == Wires::Spi;
     assert_eq!(spi, taken > traces, "{taken} selections");
+    let waited = if part == LATE {
+        waiting > traces
+    } else {
+        waiting == 0
+    };
+    assert!(waited, "{waiting} while a byte waits");
+}
+
+/// A WRITE, cut after each event around the last rise of each data byte. What memory holds is also told
+/// from the wires alone.
+fn around_each_byte(write: &Write) -> u64 {
+    let mut followed = Followed::new(write.making);
+    let around = write.around();
+    for (count, event) in (1..).zip(events(&write.trace)) {
+        followed.take(event);
+        if around.contains(&count) {
+            followed.cut();
+            let same = followed.held.memory == write.memory(count);
+            assert!(same, "memory behind {count} events: {:x?}", write.trace);
+        }
+    }
+    followed.waiting
+}
+
+/// On part 1 cuts come while a byte waits, and on the others none does.
+#[test]
+fn around_each_byte_of_a_write() {
+    let all = |part| -> u64 { late::writes(part).iter().map(around_each_byte).sum() };
+    assert_eq!((all(0), all(2)), (0, 0));
+    let waiting = all(LATE);
+    assert!(waiting > 500, "only {waiting}");
 }
 
 #[test]

@@ -10,6 +10,7 @@ use twin::{Model, PARTS};
 const BASE: &str = include_str!("../../vectors/base.txt");
 const FIELDS: &str = include_str!("../../vectors/fields.txt");
 const FLAGS: &str = include_str!("../../vectors/flags.txt");
+const LATE: &str = include_str!("../../vectors/late.txt");
 const MORE: &str = include_str!("../../vectors/more.txt");
 
 fn making(line: &Line) -> Making {
@@ -86,10 +87,24 @@ fn flags() {
     assert!(0 < lines.flagged && lines.flagged < 120, "{lines:?}");
 }
 
+#[test]
+fn late() {
+    assert_eq!(check(LATE, true).all, 120);
+}
+
 /// The same lines once more with the ledger, and stopped around their flagged event and halfway.
 #[test]
 fn flags_by_ledger_and_quota() {
-    for line in parsed(FLAGS) {
+    by_ledger_and_quota(FLAGS);
+}
+
+#[test]
+fn late_by_ledger_and_quota() {
+    by_ledger_and_quota(LATE);
+}
+
+fn by_ledger_and_quota(text: &str) {
+    for line in parsed(text) {
         let call = Call::whole(making(&line), line.trace);
         let compared = call.compare().and_then(|agreed| {
             let half = agreed.ran.count / 2;

@@ -119,7 +119,8 @@ impl Spi {
         }
     }
 
-    /// The data of a WRITE: with WEL it is stored where nothing protects it. WEL ends either way.
+    /// The data of a WRITE: with WEL it is stored where nothing protects it. WEL ends either way. CS#
+    /// rises behind the last byte, so that none waits on a part that stores late.
     fn take_data(&mut self, input: &[u8], data: &[u8], memory: &mut [u8]) {
         let enabled = std::mem::take(&mut self.wel);
         if let (Some(address), true) = (address(self.part, input), enabled) {

@@ -68,6 +68,8 @@ pub struct Knobs {
     pub moved: u32,
     /// That it moves with a fall or rise of CS#, or with a START or STOP, from that block on.
     pub border: u32,
+    /// That the last rise of a data byte of WRITE is followed by a hold, a power cut or CS# rising.
+    pub byte_end: u32,
     /// That a sample is followed by a power cut, with power on after it.
     pub cut: u32,
     /// That a power on comes with a refused event before it or after it.
@@ -91,6 +93,7 @@ impl Default for Knobs {
             glitch: 8,
             moved: 0,
             border: 0,
+            byte_end: 0,
             cut: 1,
             stray: 0,
             fields: 0,
@@ -116,6 +119,10 @@ impl Knobs {
             glitch: rng.pick(&[0, 0, 3, 10, 60]),
             moved: rng.pick(&[0, 0, 0, 2, 6, 30]),
             border: rng.pick(&[0, 0, 0, 80, 400]),
+            byte_end: match known(part).wires {
+                Wires::Spi => rng.pick(&[0, 60, 250]),
+                Wires::I2c => 0,
+            },
             cut: rng.pick(&[0, 0, 1, 3]),
             stray: rng.pick(&[0, 10]),
             fields: rng.pick(&[0, 0, 200]),

@@ -33,7 +33,7 @@ const OFF: u8 = 0;
 const SPI_ON: u8 = 1;
 const I2C_ON: u8 = 2;
 
-const SPI_PHASES: [(u8, spi::Phase); 16] = [
+const SPI_PHASES: [(u8, spi::Phase); 17] = [
     (0x00, spi::Phase::Rest),
     (0x01, spi::Phase::Deaf),
     (0x10, spi::Phase::Code),
@@ -50,6 +50,7 @@ const SPI_PHASES: [(u8, spi::Phase); 16] = [
     (0x31, spi::Phase::Wrdi),
     (0x32, spi::Phase::Sleep),
     (0x33, spi::Phase::Wrsr),
+    (0x34, spi::Phase::Waiting),
 ];
 
 const I2C_PHASES: [(u8, i2c::Phase); 7] = [
@@ -219,13 +220,15 @@ fn spi_limits(part: &Part, phase: spi::Phase) -> Limits {
         Register => Limits::shows(8),
         Identity => Limits::shows(8).detail(4),
         Wrsr => Limits::NONE.detail(256),
+        Waiting => Limits::NONE.at(part.size).detail(256),
     }
 }
 
 fn spi_of(part: &'static Part, image: &[u8; LENGTH]) -> Option<Spi> {
     let phase = phase_of(&SPI_PHASES, image[at::PHASE])?;
     let shown = image[at::DRIVEN];
-    if shown > NOTHING || !spi_limits(part, phase).hold(image) {
+    let waits_in_vain = phase == spi::Phase::Waiting && !part.stores_late;
+    if shown > NOTHING || waits_in_vain || !spi_limits(part, phase).hold(image) {
         return None;
     }
     Some(Spi {

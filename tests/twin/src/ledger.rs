@@ -144,23 +144,33 @@ impl Ledger {
         }
     }
 
-    /// A counted rise came: a data byte of a WRITE may be whole with it.
+    /// A counted rise came: a data byte of a WRITE may be whole with it. On a part that stores late this
+    /// is the byte that the rise follows, and its bits are those before the rise.
     fn selection_grew(&mut self) {
-        let Some(since) = &self.since else { return };
-        let Some(bits) = &since.open else { return };
-        let head = self.head();
-        if bits.len() <= head || bits.len() % 8 != 0 || !since.enabled() {
+        let Some(bits) = self.since.as_ref().and_then(|since| since.open.as_ref()) else {
             return;
+        };
+        let followed = bits.len() - usize::from(self.part.stores_late);
+        if let Some((address, byte)) = self.whole_data(&bits[..followed]) {
+            self.store(address, byte);
+        }
+    }
+
+    /// The data byte of a WRITE with its enable that ends with these bits of the open selection, if
+    /// the ledger's bits do not protect its address; and this address.
+    fn whole_data(&self, bits: &[bool]) -> Option<(usize, u8)> {
+        let head = self.head();
+        let enabled = self.since.as_ref().is_some_and(Since::enabled);
+        if bits.len() <= head || !bits.len().is_multiple_of(8) || !enabled {
+            return None;
         }
         if self.op(bits) != Some(Op::Write) {
-            return;
+            return None;
         }
         let behind = (bits.len() - head) / 8 - 1;
         let address = (number(&bits[8..head]) + behind) % self.part.size;
         let byte = number(&bits[bits.len() - 8..]) as u8;
-        if address < self.part.protected_from(self.bits) {
-            self.store(address, byte);
-        }
+        (address < self.part.protected_from(self.bits)).then_some((address, byte))
     }
 
     /// A permitted write.
@@ -169,8 +179,13 @@ impl Ledger {
         self.stored += 1;
     }
 
-    /// CS# rose: WREN, WRDI and SLEEP are whole after their code, WRSR with a data byte.
+    /// CS# rose: WREN, WRDI and SLEEP are whole after their code, WRSR with a data byte. On a part that
+    /// stores late it follows the last data byte of a WRITE, if no bit came behind that.
     fn selection_ends(&mut self, bits: &[bool], sample: u8) {
+        let last = self.whole_data(bits).filter(|_| self.part.stores_late);
+        if let Some((address, byte)) = last {
+            self.store(address, byte);
+        }
         let op = self.op(bits);
         let head = self.head();
         let Some(since) = &mut self.since else { return };

@@ -67,6 +67,9 @@ pub struct Part {
     pub max_bits: u32,
     /// Whether the status bits outlive a loss of power.
     pub keeps_bits: bool,
+    /// Whether a data byte of WRITE is stored only once it is followed, by the next counted rise or by
+    /// CS# rising; else with its eighth rise.
+    pub stores_late: bool,
 }
 
 pub static PARTS: [Part; 5] = [
@@ -81,6 +84,7 @@ pub static PARTS: [Part; 5] = [
         max_pins: 0,
         max_bits: 0,
         keeps_bits: false,
+        stores_late: false,
     },
     Part {
         number: 1,
@@ -93,6 +97,7 @@ pub static PARTS: [Part; 5] = [
         max_pins: 0,
         max_bits: 7,
         keeps_bits: true,
+        stores_late: true,
     },
     Part {
         number: 2,
@@ -105,6 +110,7 @@ pub static PARTS: [Part; 5] = [
         max_pins: 0,
         max_bits: 7,
         keeps_bits: true,
+        stores_late: false,
     },
     Part {
         number: 3,
@@ -117,6 +123,7 @@ pub static PARTS: [Part; 5] = [
         max_pins: 7,
         max_bits: 0,
         keeps_bits: false,
+        stores_late: false,
     },
     Part {
         number: 4,
@@ -129,6 +136,7 @@ pub static PARTS: [Part; 5] = [
         max_pins: 3,
         max_bits: 0,
         keeps_bits: false,
+        stores_late: false,
     },
 ];
 

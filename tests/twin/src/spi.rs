@@ -20,6 +20,8 @@ pub(crate) enum Phase {
     Dummy,
     /// A data byte of WRITE.
     Data,
+    /// A data byte of WRITE came in whole, and is stored once it is followed.
+    Waiting,
     /// The first data byte of WRSR.
     StatusData,
     /// These three show.
@@ -54,14 +56,14 @@ pub(crate) struct Selection {
     pub phase: Phase,
     /// The counted rises of the field that comes in, or of the byte that is shown.
     pub rises: u8,
-    /// Of Data whether a byte was whole before; of Identity the byte's place, 3 past the last; of
-    /// Wrsr the first data byte.
+    /// Of Data whether a byte was whole before; of Waiting the byte; of Identity the byte's place, 3
+    /// past the last; of Wrsr the first data byte.
     pub detail: u8,
     /// The bit shown while not held.
     pub shown: u8,
     /// The number that the bits of the field make.
     pub field: u32,
-    /// Of Dummy, Data and Memory, below the size.
+    /// Of Dummy, Data, Waiting and Memory, below the size.
     pub address: u32,
 }
 
@@ -146,7 +148,7 @@ impl Spi {
             if new & CS == 0 {
                 self.begin_selection();
             } else {
-                self.end_selection(new & WP != 0);
+                self.end_selection(new & WP != 0, memory);
                 self.rest();
             }
         } else if changed & SCK != 0 && new & CS == 0 && old & new & HOLD != 0 {
@@ -181,9 +183,13 @@ impl Spi {
         self.selection = Selection::at(Phase::Rest);
     }
 
-    /// A counted rise brings in one bit, or goes on to the next one of what is shown.
+    /// A counted rise brings in one bit, or goes on to the next one of what is shown. A byte that waits
+    /// is stored with it, and the bit is the first of the next byte.
     #[inline]
     fn rise(&mut self, si: bool, memory: &mut [u8]) {
+        if self.selection.phase == Phase::Waiting {
+            self.store_waiting(memory);
+        }
         let selection = &mut self.selection;
         if selection.phase.takes() {
             selection.rises += 1;
@@ -231,13 +237,25 @@ impl Spi {
             }
             Phase::Data => {
                 let byte = selection.field as u8;
-                selection.go(Phase::Data, next(self.part, address), 1);
-                if self.wel && !self.part.protects(self.bits, address as usize) {
-                    memory[address as usize] = byte;
+                selection.go(Phase::Waiting, address, byte);
+                if !self.part.stores_late {
+                    self.store_waiting(memory);
                 }
             }
             _ => {}
         }
+    }
+
+    /// The data byte that waits is stored, unless WEL is clear or its address protected; the next one
+    /// may come in.
+    fn store_waiting(&mut self, memory: &mut [u8]) {
+        let Selection {
+            address, detail, ..
+        } = self.selection;
+        if self.wel && !self.part.protects(self.bits, address as usize) {
+            memory[address as usize] = detail;
+        }
+        self.selection.go(Phase::Data, next(self.part, address), 1);
     }
 
     /// A counted fall shows the bit that the rises have come to, from bit 7 of the byte on. Before
@@ -263,9 +281,12 @@ impl Spi {
         status_byte(self.bits, self.wel)
     }
 
-    /// CS# rises. If the part slept through the selection it wakes now. Data that was whole ends
-    /// WEL, whatever became of it.
-    fn end_selection(&mut self, wp: bool) {
+    /// CS# rises. If the part slept through the selection it wakes now. A byte that waits is stored,
+    /// and then data that was whole ends WEL, whatever became of it.
+    fn end_selection(&mut self, wp: bool, memory: &mut [u8]) {
+        if self.selection.phase == Phase::Waiting {
+            self.store_waiting(memory);
+        }
         let Selection { phase, detail, .. } = self.selection;
         self.asleep = !self.asleep && phase == Phase::Sleep;
         match phase {

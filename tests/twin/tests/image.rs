@@ -174,7 +174,7 @@ fn reached_states_go_round() {
         }
     }
     let seen = phases.map(|of_bus| of_bus.iter().filter(|&&seen| seen).count());
-    assert_eq!(seen, [16, 7]);
+    assert_eq!(seen, [17, 7]);
 }
 
 /// The states of the parts that a trace leaves somewhere within it.
@@ -224,6 +224,20 @@ fn every_byte_of_drawn_images() {
             taken(&image);
             every_byte(&image);
         }
+    }
+}
+
+/// A byte that waits, not held and held, at the top and at 0, and one that will not be stored.
+#[test]
+fn every_byte_of_waiting_images() {
+    for text in [
+        "01 00 02 01 1e 02 00 34  00 00 00 00 01 ff ff ff",
+        "01 00 02 01 0a 02 00 34  00 00 00 00 00 00 00 00",
+        "01 00 8c 01 18 02 00 34  00 00 00 00 01 23 45 67",
+    ] {
+        let image = dump(text);
+        taken(&image);
+        every_byte(&image);
     }
 }
 

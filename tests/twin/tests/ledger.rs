@@ -2,6 +2,7 @@
 //! same flags as the model.
 
 use twin::gen::{self, Case, Rng};
+use twin::image::encode;
 use twin::text::first_memory;
 use twin::trace::events;
 use twin::{Ledger, Model};
@@ -18,13 +19,13 @@ fn compare_cut(model: &Model, memory: &mut [u8], ledger: &Ledger) {
 }
 
 /// Feeds the events of a trace, refused ones in between included; returns the events that changed
-/// the memory or the bits, and those with the flag.
-fn follow(case: &Case, rng: &mut Rng) -> (u64, u64) {
+/// the memory or the bits, those with the flag, and those after which a data byte waits.
+fn follow(case: &Case, rng: &mut Rng) -> [u64; 3] {
     let (_, mut model) = Model::make(case.part, case.pins, case.bits);
     let mut memory = first_memory(model.part().size);
     let mut ledger = Ledger::begin(case.part, case.pins, case.bits, &memory);
     let mut rest = events(&case.trace).peekable();
-    let (mut changes, mut flags) = (0, 0);
+    let (mut changes, mut flags, mut waits) = (0, 0, 0);
     compare_cut(&model, &mut memory, &ledger);
     while let Some(&next) = rest.peek() {
         let junk = [rng.byte() % 8, rng.byte()];
@@ -38,27 +39,29 @@ fn follow(case: &Case, rng: &mut Rng) -> (u64, u64) {
             changes += u64::from(memory != ledger.memory() || model.bits() != ledger.bits());
             assert_eq!(ledger.feed(event, answer), flag, "the flag of {event:?}");
             flags += u64::from(flag);
+            waits += u64::from(encode(&model)[7] == 0x34);
         } else {
             assert_eq!((&model, answer, flag), (&before, 2, false));
         }
         compare_cut(&model, &mut memory, &ledger);
     }
-    (changes, flags)
+    [changes, flags, waits]
 }
 
 /// So many generated traces of a part.
 fn follow_part(part: u32, traces: u64) {
     let mut rng = Rng::new(0xced6e5 + u64::from(part));
-    let (mut changes, mut flags) = (0, 0);
+    let mut sum = [0; 3];
     for _ in 0..traces {
         let case = gen::case_of(&mut rng, part);
-        let (changed, flagged) = follow(&case, &mut rng);
-        changes += changed;
-        flags += flagged;
+        let more = follow(&case, &mut rng);
+        sum = [0, 1, 2].map(|at| sum[at] + more[at]);
     }
-    let least = traces / 2;
+    let ([changes, flags, waits], least) = (sum, traces / 2);
     assert!(changes > least, "{changes} writes in {traces} traces");
     assert!(flags > least, "{flags} flags in {traces} traces");
+    let waited = if part == 1 { waits > least } else { waits == 0 };
+    assert!(waited, "{waits} cuts while a byte waits");
 }
 
 #[test]

@@ -5,7 +5,7 @@
 #[path = "common/vectors.rs"]
 mod files;
 
-use files::{base_agrees, fields_agree, flags_agree, rows, vectors};
+use files::{base_agrees, fields_agree, flags_agree, late_agrees, rows, vectors};
 use twin::text::{ByteLine, Line};
 
 #[test]
@@ -37,6 +37,11 @@ fn columns_of_a_line() {
 #[test]
 fn every_flag_agrees() {
     flags_agree(Line::again);
+}
+
+#[test]
+fn every_late_store_agrees() {
+    late_agrees(Line::again);
 }
 
 #[test]

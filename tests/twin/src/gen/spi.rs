@@ -93,12 +93,52 @@ impl Bench<'_> {
             let wanted = self.rng.pick(&[0x00, 0x04, 0x08, 0x0c, 0x80, 0x84, 0xff]);
             let byte = if code == 1 { wanted } else { self.rng.byte() };
             self.bits(u64::from(byte), 8);
+            if code == 2 && self.rng.chance(self.knobs.byte_end) && self.behind_byte() {
+                return;
+            }
         }
         if self.rng.chance(150) {
             let partial = 1 + self.rng.below(7);
             let any = self.rng.draw();
             self.bits(any, partial);
         }
+    }
+
+    /// What comes behind the last rise of a data byte, at once or after SCK has fallen: a hold, CS#
+    /// rising in a hold or without, or a power cut. Whether it ends the selection.
+    fn behind_byte(&mut self) -> bool {
+        use spi_pin::{CS, HOLD, SCK};
+        if self.rng.chance(500) {
+            self.change(0, SCK);
+        }
+        match self.rng.below(6) {
+            0..=2 => {
+                self.hold();
+                return false;
+            }
+            3 => {
+                self.send(self.wires & !HOLD);
+                self.stray_clocks(HOLD, 0);
+                let with = self.rng.pick(&[0, SCK, HOLD]);
+                self.send((self.wires ^ with) | CS);
+            }
+            4 => {
+                let with = self.rng.pick(&[0, SCK, HOLD]);
+                self.send((self.wires ^ with) | CS);
+            }
+            _ => self.power_off_on(),
+        }
+        true
+    }
+
+    /// HOLD# falls and rises, sometimes in the same sample as SCK, with clocks between.
+    fn hold(&mut self) {
+        use spi_pin::{HOLD, SCK};
+        let with = if self.rng.chance(400) { SCK } else { 0 };
+        self.send((self.wires ^ with) & !HOLD);
+        self.stray_clocks(HOLD, 0);
+        let with = if self.rng.chance(400) { SCK } else { 0 };
+        self.send((self.wires ^ with) | HOLD);
     }
 
     /// The lowest `count` bits, most significant first.
@@ -127,13 +167,7 @@ impl Bench<'_> {
     fn spi_glitch(&mut self) {
         use spi_pin::{CS, HOLD, SCK, SI, WP};
         match self.rng.below(10) {
-            0..=3 => {
-                let with = if self.rng.chance(400) { SCK } else { 0 };
-                self.send((self.wires ^ with) & !HOLD);
-                self.stray_clocks(HOLD, 0);
-                let with = if self.rng.chance(400) { SCK } else { 0 };
-                self.send((self.wires ^ with) | HOLD);
-            }
+            0..=3 => self.hold(),
             4 => {
                 let with = self.rng.pick(&[0, SCK, HOLD]);
                 self.send((self.wires ^ with) | CS);

@@ -3,6 +3,7 @@
 use crate::reading::Reading;
 use crate::tally::Tally;
 use twin::gen::Case;
+use twin::image::encode;
 use twin::text::{first_memory, hex};
 use twin::Model;
 
@@ -34,7 +35,7 @@ impl Both<'_> {
     }
 
     /// One event from the front of the rest of the trace: number, answer, flag, the byte stored, the
-    /// present answer, the bits, and what a cut leaves.
+    /// present answer, the bits, what a cut leaves, and the byte that waits.
     pub fn event(&mut self, tally: &mut Tally) {
         let bytes = &self.case.trace[self.at..];
         let given = self.reading.event(bytes, &mut self.by_reading);
@@ -49,6 +50,7 @@ impl Both<'_> {
         let ours = (reading.powered(), reading.answer(), reading.bits());
         assert_eq!(told, ours, "{}", self.about());
         self.compare_cut(tally);
+        self.compare_waiting();
         tally.enter(&given);
     }
 
@@ -65,6 +67,17 @@ impl Both<'_> {
         }
     }
 
+    /// The byte that waits stands in the image with its address, and its cell is as it was, also after
+    /// the cut.
+    fn compare_waiting(&self) {
+        let waiting = self.reading.waiting();
+        let told = waits(&encode(&self.model));
+        assert_eq!(told, waiting, "waiting: {}", self.about());
+        if let Some((at, _)) = waiting {
+            assert_eq!(self.by_model[at], self.by_reading[at], "{}", self.about());
+        }
+    }
+
     pub fn compare_memory(&self) {
         assert!(self.by_model == self.by_reading, "memory: {}", self.about());
     }
@@ -77,4 +90,10 @@ impl Both<'_> {
         let trace = hex(&self.case.trace);
         format!("byte {} of {part} {pins} {bits} {trace}", self.at)
     }
+}
+
+/// Address and byte of an image in which a byte waits.
+fn waits(image: &[u8; 32]) -> Option<(usize, u8)> {
+    let address = u32::from_be_bytes([0, image[12], image[13], image[14]]);
+    (image[7] == 0x34).then_some((address as usize, image[15]))
 }

@@ -1,7 +1,8 @@
-//! A second reading of document 01, and the twin held against it event by event. The twin's buses go
-//! by the phases of docs/IMAGE.md, as the build's do, and a misreading that this form invites would
-//! be in both. Here they go by the paper's own words: counted rises of a selection, bytes since
-//! START. The reading has its own table and takes no rule from the twin.
+//! A second reading of document 01, and of asks 1, 2 and 6 of document 02, and the twin held against it
+//! event by event. The twin's buses go by the phases of docs/IMAGE.md, as the build's do, and a
+//! misreading that this form invites would be in both. Here they go by the paper's own words: counted
+//! rises of a selection, bytes since START. The reading has its own table and takes no rule from the
+//! twin.
 
 mod both;
 mod i2c;
@@ -135,6 +136,11 @@ fn every_bad_field_agrees() {
 #[test]
 fn every_flag_agrees() {
     vectors::flags_agree(again);
+}
+
+#[test]
+fn every_late_store_agrees() {
+    vectors::late_agrees(again);
 }
 
 /// The traces made by hand, whose values are the twin's.

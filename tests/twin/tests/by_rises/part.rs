@@ -1,4 +1,5 @@
-//! "The five parts": document 01's table and its protected ranges, written a second time.
+//! "The five parts": document 01's table and its protected ranges, written a second time, with what ask
+//! 6 says of one part.
 
 /// A line of the table.
 pub enum Part {
@@ -19,6 +20,8 @@ pub struct SpiPart {
     pub keeps_bits: bool,
     /// "Protected ranges, BP1 BP0 = 01, 10, 11 .. each to the top"; "size itself for 00".
     pub protected_from: [usize; 4],
+    /// "when the MR45V100A really stores .. on that part a finished data byte waits".
+    pub waits: bool,
 }
 
 pub struct I2cPart {
@@ -38,6 +41,7 @@ pub static PARTS: [Part; 5] = [
         max_bits: 0,
         keeps_bits: false,
         protected_from: [4_096, 0xc00, 0x800, 0x000],
+        waits: false,
     }),
     Part::Spi(SpiPart {
         size: 131_072,
@@ -47,6 +51,7 @@ pub static PARTS: [Part; 5] = [
         max_bits: 7,
         keeps_bits: true,
         protected_from: [131_072, 0x18000, 0x10000, 0],
+        waits: true,
     }),
     Part::Spi(SpiPart {
         size: 262_144,
@@ -56,6 +61,7 @@ pub static PARTS: [Part; 5] = [
         max_bits: 7,
         keeps_bits: true,
         protected_from: [262_144, 0x30000, 0x20000, 0],
+        waits: false,
     }),
     Part::I2c(I2cPart {
         size: 8_192,

@@ -1,4 +1,5 @@
-//! "Models and events" and "Numbers given back", with the numbers of ask 1 and the flag of ask 2.
+//! "Models and events" and "Numbers given back", with the numbers of ask 1, the flag of ask 2 and the
+//! byte that waits of ask 6.
 
 use crate::i2c::I2c;
 use crate::part::{Part, PARTS};
@@ -16,6 +17,15 @@ pub enum Reached {
     /// A data byte of WRITE that is not stored.
     Protected,
     NotEnabled,
+    /// A data byte that waited until CS# rises: stored, not held or held, or not stored.
+    StoredAsCsRises,
+    StoredAsCsRisesHeld,
+    DroppedAsCsRises,
+    /// A data byte waits on: a counted fall, or a rise that a hold keeps from counting.
+    FallWaiting,
+    HeldRiseWaiting,
+    /// Power goes off before a data byte that waits is stored.
+    WaitingLost,
     /// A data byte on I2C with WP 1.
     Dropped,
     /// A counted fall that shows a bit, or has none left to show.
@@ -72,21 +82,28 @@ pub struct Step {
     pub flag: bool,
     /// The address of a byte that was stored.
     pub stored: Option<usize>,
-    pub reached: Option<Reached>,
+    /// Two where a byte that waited comes before the end of its selection.
+    pub reached: [Option<Reached>; 2],
 }
 
 impl Step {
     pub fn at(reached: Reached) -> Step {
-        Step {
-            reached: Some(reached),
-            ..Step::default()
-        }
+        Step::when(true, reached)
     }
 
     pub fn when(holds: bool, reached: Reached) -> Step {
         Step {
-            reached: holds.then_some(reached),
+            reached: [holds.then_some(reached), None],
             ..Step::default()
+        }
+    }
+
+    /// The same with what a byte that waited came to before it.
+    pub fn after(self, last: Step) -> Step {
+        Step {
+            stored: last.stored,
+            reached: [last.reached[0], self.reached[0]],
+            ..self
         }
     }
 
@@ -168,6 +185,14 @@ impl Reading {
         }
     }
 
+    /// The data byte that waits and its address, if one does.
+    pub fn waiting(&self) -> Option<(usize, u8)> {
+        match &self.power {
+            Power::Spi(spi) => spi.waiting(),
+            Power::Off | Power::I2c(_) => None,
+        }
+    }
+
     /// The present answer.
     pub fn answer(&self) -> u8 {
         match &self.power {
@@ -240,8 +265,10 @@ impl Reading {
                 self.power = Power::I2c(I2c::power_on(part, self.pins as u8, bytes[1], start));
             }
             (3, ..) => {
+                let lost = matches!(&self.power, Power::Spi(spi) if spi.would_lose());
                 self.saved = self.bits_after_cut();
                 self.power = Power::Off;
+                return Step::when(lost, Reached::WaitingLost);
             }
             (4, Power::Spi(spi), _) => return spi.sample(bytes[1], memory),
             (4, Power::I2c(i2c), _) => return i2c.sample(bytes[1], memory),

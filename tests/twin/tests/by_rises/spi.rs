@@ -1,5 +1,6 @@
 //! "SPI rules" in document 01's own terms: the bits of a selection's counted rises, their number n,
-//! and the h of each command. Its sentences stand beside the lines that they are kept by.
+//! and the h of each command. Its sentences, and those of ask 6, stand beside the lines that they are
+//! kept by.
 
 use crate::part::opcode::{FSTRD, RDID, RDSR, READ, SIX, SLEEP, WRDI, WREN, WRITE, WRSR};
 use crate::part::{number, SpiPart};
@@ -62,7 +63,10 @@ impl Spi {
         let mut step = match (old & CS != 0, new & CS != 0) {
             (true, true) => Step::default(),
             (true, false) => self.begin(),
-            (false, true) => self.end(new & WP != 0),
+            (false, true) => {
+                let last = self.last_byte(old & HOLD == 0, memory);
+                self.end(new & WP != 0).after(last)
+            }
             (false, false) => self.selected(old, new, memory),
         };
         // "a sample's WP level differs from that of the sample before and .. CS# is 0 in both SPI
@@ -82,7 +86,9 @@ impl Spi {
     fn selected(&mut self, old: u8, new: u8, memory: &mut [u8]) -> Step {
         let edge = (old & SCK != 0, new & SCK != 0);
         if old & HOLD == 0 || new & HOLD == 0 {
+            let waits = self.waits().is_some();
             return match self.answer() {
+                NOTHING if waits && edge == (false, true) => Step::at(Reached::HeldRiseWaiting),
                 NOTHING => Step::when(edge.0 != edge.1, Reached::HeldEdge),
                 _ => Step::at(Reached::ShownAfterHold),
             };
@@ -122,32 +128,84 @@ impl Spi {
                 Reached::RiseSincePowerOn
             });
         };
+        let before = selection.bits.len();
         selection.bits.push(si);
-        let n = selection.bits.len();
+        // "a finished data byte waits until .. the next counted clock rise .. and is stored then"
+        let finished = if self.part.waits { before } else { before + 1 };
+        self.data_byte(finished, memory)
+    }
+
+    /// Which data byte of WRITE the first n bits of the selection end with, if they end with one.
+    fn finished(&self, n: usize) -> Option<usize> {
         let head = self.head();
-        if self.opcode() == Some(WRITE) && n > head && (n - head).is_multiple_of(8) {
-            self.data_byte(memory)
-        } else {
-            Step::default()
-        }
+        let whole = self.opcode() == Some(WRITE) && n > head && (n - head).is_multiple_of(8);
+        whole.then(|| (n - head) / 8 - 1)
     }
 
     /// "WRITE: if WEL is 1, each data byte is stored at its eighth rise unless its address is
-    /// protected. The address goes up by one either way and rolls over."
-    fn data_byte(&self, memory: &mut [u8]) -> Step {
-        let Some(Selection { bits, .. }) = &self.selection else {
+    /// protected. The address goes up by one either way and rolls over." Where data byte number k goes,
+    /// or why it is not stored; of one that waited: "Protection, WEL and roll-over are judged as before."
+    fn judged(&self, bits: &[bool], k: usize) -> Result<(usize, bool), Reached> {
+        let (address, rolled) = self.address(bits, k);
+        if !self.wel {
+            Err(Reached::NotEnabled)
+        } else if address >= self.part.protected_from[usize::from(self.bits & 0b11)] {
+            Err(Reached::Protected)
+        } else {
+            Ok((address, rolled))
+        }
+    }
+
+    /// The data byte that ends with the first n bits, if one does.
+    fn data_byte(&self, n: usize, memory: &mut [u8]) -> Step {
+        let (Some(k), Some(Selection { bits, .. })) = (self.finished(n), &self.selection) else {
             return Step::default();
         };
-        let n = bits.len();
-        let (address, rolled) = self.address(bits, (n - self.head()) / 8 - 1);
-        if !self.wel {
-            return Step::at(Reached::NotEnabled);
+        match self.judged(bits, k) {
+            Ok((address, rolled)) => {
+                memory[address] = number(&bits[n - 8..n]) as u8;
+                Step::stored(address, rolled)
+            }
+            Err(reached) => Step::at(reached),
         }
-        if address >= self.part.protected_from[usize::from(self.bits & 0b11)] {
-            return Step::at(Reached::Protected);
+    }
+
+    /// "a finished data byte waits": its number among those of its selection, if one does.
+    fn waits(&self) -> Option<usize> {
+        let n = self.selection.as_ref()?.bits.len();
+        self.finished(n).filter(|_| self.part.waits)
+    }
+
+    /// Its address and itself.
+    pub fn waiting(&self) -> Option<(usize, u8)> {
+        let (k, Selection { bits, .. }) = (self.waits()?, self.selection.as_ref()?);
+        let byte = number(&bits[bits.len() - 8..]) as u8;
+        Some((self.address(bits, k).0, byte))
+    }
+
+    /// "A cut in between loses it": whether one waits that would be stored.
+    pub fn would_lose(&self) -> bool {
+        let bits = self.selection.as_ref().map(|open| &open.bits);
+        let judged = bits.zip(self.waits()).map(|(bits, k)| self.judged(bits, k));
+        matches!(judged, Some(Ok(_)))
+    }
+
+    /// "waits until CS# rises", held or not.
+    fn last_byte(&self, held: bool, memory: &mut [u8]) -> Step {
+        if self.waits().is_none() {
+            return Step::default();
         }
-        memory[address] = number(&bits[n - 8..]) as u8;
-        Step::stored(address, rolled)
+        let n = self.selection.as_ref().map_or(0, |open| open.bits.len());
+        let step = self.data_byte(n, memory);
+        let reached = match (step.stored, held) {
+            (Some(_), false) => Reached::StoredAsCsRises,
+            (Some(_), true) => Reached::StoredAsCsRisesHeld,
+            (None, _) => Reached::DroppedAsCsRises,
+        };
+        Step {
+            stored: step.stored,
+            ..Step::at(reached)
+        }
     }
 
     /// "Output starts after h rises: h = 8 for RDSR and RDID; 8 + address bits for READ; 40 for
@@ -165,7 +223,7 @@ impl Spi {
     /// byte number (n - h) div 8."
     fn fall(&mut self, memory: &[u8]) -> Step {
         let (Some(h), Some(Selection { bits, .. })) = (self.h(), &self.selection) else {
-            return Step::default();
+            return Step::when(self.waits().is_some(), Reached::FallWaiting);
         };
         let n = bits.len();
         if n < h {

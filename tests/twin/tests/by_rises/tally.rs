@@ -24,7 +24,7 @@ impl Tally {
             self.answers[usize::from(given.answer)] += 1;
         }
         self.flags += u64::from(given.step.flag);
-        if let Some(reached) = given.step.reached {
+        for reached in given.step.reached.into_iter().flatten() {
             *self.reached.entry(reached).or_default() += 1;
         }
     }
@@ -88,7 +88,7 @@ fn at_least(part: usize, what: &str, count: u64, floor: u64) {
 fn floors(part: usize) -> Vec<(Reached, u64)> {
     let of: &[&[(Reached, u64)]] = match part {
         0 => &[&STORES, &SPI],
-        1 => &[&STORES, &SPI, &IDENTITY, &FAST_READ_AND_SLEEP],
+        1 => &[&LATE_STORES, &SPI, &IDENTITY, &FAST_READ_AND_SLEEP],
         2 => &[&STORES, &SPI, &IDENTITY],
         3 => &[&STORES, &I2C],
         _ => &[&STORES, &I2C, &A16],
@@ -101,6 +101,19 @@ fn floors(part: usize) -> Vec<(Reached, u64)> {
 const STORES: [(Reached, u64); 2] = [
     (Reached::Stored, 15_000),
     (Reached::StoredRolledOver, 2_500),
+];
+
+/// Those of the part on which a data byte waits: with the next counted rise, as CS# rises, and lost; and
+/// what leaves it waiting.
+const LATE_STORES: [(Reached, u64); 8] = [
+    (Reached::Stored, 10_000),
+    (Reached::StoredRolledOver, 1_600),
+    (Reached::StoredAsCsRises, 3_300),
+    (Reached::StoredAsCsRisesHeld, 220),
+    (Reached::DroppedAsCsRises, 5_000),
+    (Reached::FallWaiting, 34_000),
+    (Reached::HeldRiseWaiting, 2_900),
+    (Reached::WaitingLost, 230),
 ];
 
 const SPI: [(Reached, u64); 16] = [

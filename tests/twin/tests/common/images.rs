@@ -47,7 +47,7 @@ type Row = (u8, u32, bool, At, u32);
 /// The counts of an address: as many as it has bits.
 const WIDTH: u32 = 0;
 
-const SPI: [Row; 16] = [
+const SPI: [Row; 17] = [
     (0x00, 1, false, At::No, 1),
     (0x01, 1, false, At::No, 1),
     (0x10, 8, true, At::No, 1),
@@ -64,7 +64,11 @@ const SPI: [Row; 16] = [
     (0x31, 1, false, At::No, 1),
     (0x32, 1, false, At::No, 1),
     (0x33, 1, false, At::No, 256),
+    (0x34, 1, false, At::Size, 256),
 ];
+
+/// The last is that of a byte that waits, which part 1 alone has.
+const OTHER_SPI: usize = SPI.len() - 1;
 
 const I2C: [Row; 7] = [
     (0x00, 1, false, At::No, 1),
@@ -77,10 +81,10 @@ const I2C: [Row; 7] = [
 ];
 
 fn rows(part: u8) -> &'static [Row] {
-    if part < 3 {
-        &SPI
-    } else {
-        &I2C
+    match part {
+        1 => &SPI,
+        0 | 2 => &SPI[..OTHER_SPI],
+        _ => &I2C,
     }
 }
 

@@ -52,3 +52,10 @@ pub fn flags_agree(again: impl Fn(&Line) -> Line) {
     let count = lines_agree(&path, true, again);
     assert_eq!(count, 120, "vectors in {}", path.display());
 }
+
+/// Lines with the flag's offset, of the part that stores late.
+pub fn late_agrees(again: impl Fn(&Line) -> Line) {
+    let path = vectors("late.txt", "TWIN_LATE_VECTORS");
+    let count = lines_agree(&path, true, again);
+    assert_eq!(count, 120, "vectors in {}", path.display());
+}

@@ -36,6 +36,9 @@ returns-4 c = search needs
 returns-5 : tie.Need-returns-5
 returns-5 c = search needs
 
+returns-6 : tie.Need-returns-6
+returns-6 c = simp (c .enum-told5 .given .1)
+
 pub end-phase-spec : {M : Type 1} → statement M
 end-phase-spec =
     tie.close
@@ -46,8 +49,10 @@ end-phase-spec =
     end-field-requires
     enum-told-3
     enum-told-4
+    (λ c. search needs)
     returns
     returns-2
     returns-3
     returns-4
-    returns-5)
+    returns-5
+    returns-6)

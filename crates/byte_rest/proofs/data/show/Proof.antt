@@ -76,6 +76,12 @@ returns-5 c =
     let q = c .before .before .quiet4 .ensures in
     rw (c .before .before .before .before .enum-told4 .given .1) (quiet-over (start .args .output .now) _ (start .args .from) _ (start .pre .2) (start .pre .3) (q .0) (q .1))
 
+returns-6 : tie.Need-returns-6
+returns-6 c =
+    let start = c .before .before .before .before .before .before .before .before in
+    let q = c .before .before .quiet5 .ensures in
+    rw (c .before .before .before .before .enum-told5 .given .1) (quiet-over (start .args .output .now) _ (start .args .from) _ (start .pre .2) (start .pre .3) (q .0) (q .1))
+
 pub show-spec : {M : Type 1} → statement M
 show-spec =
     tie.close
@@ -90,6 +96,8 @@ show-spec =
     show-source-requires
     enum-told-4
     quiet-requires-4
+    (λ c. search needs)
+    (λ c κs. search needs)
     same-length
     returns
     same-length-2
@@ -99,4 +107,6 @@ show-spec =
     same-length-4
     returns-4
     same-length-5
-    returns-5)
+    returns-5
+    (λ c. search needs)
+    returns-6)

@@ -39,6 +39,9 @@ returns-4 c = simp (c .enum-told3 .given .1)
 returns-5 : tie.Need-returns-5
 returns-5 c = simp (c .enum-told4 .given .1)
 
+returns-6 : tie.Need-returns-6
+returns-6 c = simp (c .enum-told5 .given .1)
+
 pub store-spec : {M : Type 1} → statement M
 store-spec =
     tie.close
@@ -49,9 +52,11 @@ store-spec =
     store-field-requires
     enum-told-3
     enum-told-4
+    (λ c. search needs)
     returns
     returns-2
     same-length
     returns-3
     returns-4
-    returns-5)
+    returns-5
+    returns-6)

@@ -15,6 +15,12 @@ returns-3 c = simp (c .taking-fields .ensures, c .before .before .phase .given .
 returns-4 : tie.Need-returns-4
 returns-4 c = simp (c .showing-fields .ensures, c .before .before .phase2 .given .1)
 
+returns-5 : tie.Need-returns-5
+returns-5 c = simp (c .waiting-fields .ensures, c .before .before .phase3 .given .1)
+
+returns-6 : tie.Need-returns-6
+returns-6 c = simp (c .with-numbers .ensures, c .before .before .phase4 .given .1)
+
 pub fields-of-spec : {M : Type 1} → statement M
 fields-of-spec =
     tie.close
@@ -29,8 +35,11 @@ fields-of-spec =
     (λ c κs. search needs)
     (λ c. search needs)
     (λ c κs. search needs)
+    (λ c. search needs)
+    (λ c κs. search needs)
     returns
     returns-2
     returns-3
     returns-4
-    (λ c. search needs))
+    returns-5
+    returns-6)

@@ -4,11 +4,14 @@ use borrow.Author.Needs.{needs}
 use Rattle.selection.proofs.rise.phase_after_field.Statement.{statement}
 use Rattle.selection.proofs.rise.phase_after_field.Tie as tie
 
-next-address-requires : tie.Need-next-address-requires
-next-address-requires c κs = rw (c .before .field2 .given .1) at (c .before .before .before .pre .1)
+cast-phase-after-data : tie.Need-cast-phase-after-data
+cast-phase-after-data c = let h = rw (c .before .field2 .given .1) at (c .before .before .before .pre .2) in omega arith
 
-cast-t17 : tie.Need-cast-t17
-cast-t17 c = let h = rw (c .enum-told5 .given .1) at (c .before .before .pre .2) in omega arith
+phase-after-data-requires : tie.Need-phase-after-data-requires
+phase-after-data-requires c κs = (c .before .before .before .pre .0, rw (c .before .field2 .given .1) at (c .before .before .before .pre .1))
+
+cast-t16 : tie.Need-cast-t16
+cast-t16 c = let h = rw (c .enum-told5 .given .1) at (c .before .before .pre .2) in omega arith
 
 returns : tie.Need-returns
 returns c = simp (c .phase-after-opcode .ensures, c .before .command-of .ensures, c .before .before .enum-told .given .1)
@@ -26,7 +29,7 @@ returns-5 : tie.Need-returns-5
 returns-5 c = simp (c .showing2 .ensures, c .before .before .field .given .1)
 
 returns-6 : tie.Need-returns-6
-returns-6 c = simp (c .taking3 .ensures, c .before .next-address .ensures, c .before .before .before .field2 .given .1)
+returns-6 c = simp (c .phase-after-data .ensures, c .before .before .field2 .given .1)
 
 returns-7 : tie.Need-returns-7
 returns-7 c = simp (c .waiting .ensures, c .before .enum-told5 .given .1)
@@ -50,10 +53,10 @@ phase-after-field-spec =
     (λ c. search needs)
     (λ c κs. search needs)
     (λ c. search needs)
-    next-address-requires
-    (λ c κs. search needs)
+    cast-phase-after-data
+    phase-after-data-requires
     (λ c. search needs)
-    cast-t17
+    cast-t16
     (λ c κs. search needs)
     returns
     returns-2

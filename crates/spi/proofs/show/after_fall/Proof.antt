@@ -21,6 +21,9 @@ returns-4 c = simp (c .shown-bit .ensures, c .before .before .phase .given .1)
 returns-5 : tie.Need-returns-5
 returns-5 c = simp (c .enum-told4 .given .1)
 
+returns-6 : tie.Need-returns-6
+returns-6 c = simp (c .enum-told5 .given .1)
+
 pub after-fall-spec : {M : Type 1} → statement M
 after-fall-spec =
     tie.close
@@ -31,8 +34,10 @@ after-fall-spec =
     (λ c. search needs)
     shown-bit-requires
     (λ c. search needs)
+    (λ c. search needs)
     returns
     returns-2
     returns-3
     returns-4
-    returns-5)
+    returns-5
+    returns-6)

@@ -21,6 +21,9 @@ returns-4 c = simp (c .enum-told3 .given .1)
 returns-5 : tie.Need-returns-5
 returns-5 c = simp (c .enum-told4 .given .1)
 
+returns-6 : tie.Need-returns-6
+returns-6 c = simp (c .permit .ensures, c .before .before .phase2 .given .1)
+
 pub rise-write-spec : {M : Type 1} → statement M
 rise-write-spec =
     tie.close
@@ -31,8 +34,11 @@ rise-write-spec =
     field-write-requires
     (λ c. search needs)
     (λ c. search needs)
+    (λ c. search needs)
+    (λ c κs. search needs)
     returns
     returns-2
     returns-3
     returns-4
-    returns-5)
+    returns-5
+    returns-6)

@@ -14,12 +14,13 @@ use Rattle.serial.proofs.BitLaws.{shifted-within}
 use Rattle.selection.specs.declared.edge.Edge.the-variants.{Select, Deselect, Rise, Fall, Quiet}
 use Rattle.selection.specs.Levels.{levelsOf}
 use Rattle.spi.specs.Show.{answerAt}
+use Rattle.spi.proofs.Keeps.{end-within}
 use Rattle.chip.proofs.CheckLaws.{sound-in, spi-ready}
 use Rattle.samples.specs.Samples.{samplesOf, spiOf}
 use Rattle.samples.proofs.BoundLaws.{Bound, bound-first, bound-room, bound-next, asked, before-end}
 use Rattle.samples.proofs.SamplesLaws.{end, three, more, Going, stops}
 use Rattle.phase_bits.specs.Field.{withBits}
-use Rattle.phase_bits.proofs.FieldLaws.{BitsIn, none-in, same-bits, one-more, none-written, fresh, selected-fresh, status-same, asleep-same, value-small, early-few, room-for-one}
+use Rattle.phase_bits.proofs.FieldLaws.{BitsIn, none-in, same-bits, one-more, none-written, next-small, selected-fresh, selected-kept, kept-kept, value-small, early-few, room-for-one}
 use Rattle.spi_samples.proofs.SpiLaws.{spiModel, same-model, ready, Turned, turned-length, turn}
 use Rattle.spi_samples.proofs.consecutive.spi_samples.Statement.{statement}
 use Rattle.spi_samples.proofs.consecutive.spi_samples.Tie as tie
@@ -37,22 +38,24 @@ abbrev μ-loop : tie.MeasureT-loop
 
 early-of-requires : tie.Need-early-of-requires Inv-loop μ-loop
 early-of-requires c κs =
-    let start = c .before .before .before .before .before .before .before in
+    let start = c .before .before .before .before .before .before .before .before in
     let a = start .args in
     rw (start .pre .0) (spi-ready (a .model) (a .spi) (a .memory .now) (start .pre .1) (sound-in (a .model) (a .memory .now) (start .pre .2)) .fit)
 
 latest-requires : tie.Need-latest-requires Inv-loop μ-loop
-latest-requires c κs = c .before .before .before .before .before .before .before .before .pre .3
+latest-requires c κs = c .before .before .before .before .before .before .before .before .before .pre .3
 
 loop-holds : tie.Need-loop-holds Inv-loop μ-loop
 loop-holds c =
-    let start = c .before .before .before .before .before .before .before .before .before in
+    let start = c .before .before .before .before .before .before .before .before .before .before in
     let a = start .args in
     let r = spi-ready (a .model) (a .spi) (a .memory .now) (start .pre .1) (sound-in (a .model) (a .memory .now) (start .pre .2)) in
     let n = c .before .before .before .bits-of .ensures in
     let v = c .before .before .value-of .ensures in
-    let e = same-model (a .model) (a .spi) (c .before .before .before .before .sample-of .result) (start .pre .1) (c .before .before .before .before .sample-of .ensures .1) in
-    (start .pre .0, rw (start .pre .0) (r .fit), refl, refl, record { small = rw (n, v) (value-small _ (a .spi .phase) (r .inside)); early = c .before .early-of .ensures }, rw (c .latest .ensures) (bound-first _ _ _ _ (start .pre .3)), record { within = start .pre .3; sound = rw (n, v, same-bits (a .spi .phase), e) (start .pre .2); left = rw (n, v, same-bits (a .spi .phase), e) })
+    let k = c .before .before .before .before .kept-of .ensures in
+    let h = same-bits _ (a .spi .phase) (r .inside) in
+    let e = same-model (a .model) (a .spi) (c .before .before .before .before .before .sample-of .result) (start .pre .1) (c .before .before .before .before .before .sample-of .ensures .1) in
+    (start .pre .0, rw (start .pre .0) (r .fit), refl, refl, record { small = rw (n, v .0) (value-small _ (a .spi .phase) (r .inside) (v .1)); early = c .before .early-of .ensures; kept = rw k (kept-kept (a .spi .phase)) }, rw (c .latest .ensures) (bound-first _ _ _ _ (start .pre .3)), record { within = start .pre .3; sound = rw (n, v .0, k, h, e) (start .pre .2); left = rw (n, v .0, k, h, e) })
 
 next-is-requires : tie.Need-next-is-requires Inv-loop μ-loop
 next-is-requires c κs = bound-room (c .loop .inv .5)
@@ -62,14 +65,14 @@ next-is-requires c κs = bound-room (c .loop .inv .5)
 first-sample-requires : tie.Need-first-sample-requires Inv-loop μ-loop
 first-sample-requires c κs =
     let l = c .before .before .loop in
-    let a = c .before .before .before .before .before .before .before .before .before .before .before .before .args in
+    let a = c .before .before .before .before .before .before .before .before .before .before .before .before .before .args in
     bound-room (l .inv .5) (before-end (a .trace .now) 32 (answerNumber (answerAt (levelsOf (l .last)) (l .shown))) _ (l .offset) _ (c .before .next-is .ensures) (c .if1 .taken))
 
 add-count : tie.Need-add-count Inv-loop μ-loop
 add-count c =
     let next = c .before .before .before .before .before .before .before .before .before .before in
     let l = next .before .before .loop in
-    let start = next .before .before .before .before .before .before .before .before .before .before .before .before in
+    let start = next .before .before .before .before .before .before .before .before .before .before .before .before .before in
     let yes = asked (start .args .trace .now) 32 (answerNumber (answerAt (levelsOf (l .last)) (l .shown))) _ (l .offset) _ (next .before .next-is .ensures) (start .args .quota) (l .count) (l .inv .5) true (next .if1 .taken) in
     omega (arith, more 32 (answerNumber (answerAt (levelsOf (l .last)) (l .shown))) (start .args .quota) (l .count) (drop (l .offset) (start .args .trace .now)) yes, start .fits .quota)
 
@@ -77,14 +80,14 @@ add-offset : tie.Need-add-offset Inv-loop μ-loop
 add-offset c =
     let next = c .before .before .before .before .before .before .before .before .before .before in
     let l = next .before .before .loop in
-    let start = next .before .before .before .before .before .before .before .before .before .before .before .before in
+    let start = next .before .before .before .before .before .before .before .before .before .before .before .before .before in
     omega (arith, bound-room (l .inv .5) (before-end (start .args .trace .now) 32 (answerNumber (answerAt (levelsOf (l .last)) (l .shown))) _ (l .offset) _ (next .before .next-is .ensures) (next .if1 .taken)), start .good .1 .1 .1 .0 .0)
 
 loop-less : tie.Need-loop-less Inv-loop μ-loop
 loop-less c =
     let next = c .before .before .before .before .before .before .before .before .before .before in
     let l = next .before .before .loop in
-    let a = next .before .before .before .before .before .before .before .before .before .before .before .before .args in
+    let a = next .before .before .before .before .before .before .before .before .before .before .before .before .before .args in
     let yes = asked (a .trace .now) 32 (answerNumber (answerAt (levelsOf (l .last)) (l .shown))) _ (l .offset) _ (next .before .next-is .ensures) (a .quota) (l .count) (l .inv .5) true (next .if1 .taken) in
     omega (arith, more 32 (answerNumber (answerAt (levelsOf (l .last)) (l .shown))) (a .quota) (l .count) (drop (l .offset) (a .trace .now)) yes)
 
@@ -94,10 +97,10 @@ early-of-requires-2 : tie.Need-early-of-requires-2 Inv-loop μ-loop
 early-of-requires-2 c κs = c .before .before .before .before .before .before .before .before .before .before .loop .inv .1
 
 early-of-requires-3 : tie.Need-early-of-requires-3 Inv-loop μ-loop
-early-of-requires-3 c κs = c .before .before .before .before .before .before .before .before .before .before .before .loop .inv .1
+early-of-requires-3 c κs = c .before .before .before .before .before .before .before .before .before .before .before .before .before .before .before .before .loop .inv .1
 
 early-of-requires-4 : tie.Need-early-of-requires-4 Inv-loop μ-loop
-early-of-requires-4 c κs = c .before .before .before .before .before .before .before .before .before .before .before .before .before .before .before .before .loop .inv .1
+early-of-requires-4 c κs = c .before .before .before .before .before .before .before .before .before .before .before .before .before .before .before .before .before .before .loop .inv .1
 
 add-bits : tie.Need-add-bits Inv-loop μ-loop
 add-bits c =
@@ -113,16 +116,38 @@ shift-in-requires c κs =
 rise-requires : tie.Need-rise-requires Inv-loop μ-loop
 rise-requires c κs =
     let l = c .before .before .before .before .before .before .before .before .before .before .before .before .before .loop in
-    let a = c .before .before .before .before .before .before .before .before .before .before .before .before .before .before .before .before .before .before .before .before .before .before .before .args in
+    let a = c .before .before .before .before .before .before .before .before .before .before .before .before .before .before .before .before .before .before .before .before .before .before .before .before .args in
     let r = ready (a .model) (l .status) (l .last) (l .asleep) (l .shown) (withBits (l .phase) (l .bits) (l .value)) (l .memory) (l .inv .6 .sound) in
-    rw (c .before .with-bits .ensures, l .inv .0) (r .fit, r .inside, r .sized)
+    let last = rw (l .inv .4 .early) at (c .before .before .if2 .left) in
+    rw (l .inv .0) (r .fit, r .inside, l .inv .4 .kept, rw (l .inv .0) at last, l .inv .4 .small, r .sized)
 
 after-fall-requires : tie.Need-after-fall-requires Inv-loop μ-loop
 after-fall-requires c κs =
     let l = c .before .before .before .before .before .before .before .before .before .before .before .loop in
-    let a = c .before .before .before .before .before .before .before .before .before .before .before .before .before .before .before .before .before .before .before .before .before .args in
+    let a = c .before .before .before .before .before .before .before .before .before .before .before .before .before .before .before .before .before .before .before .before .before .before .args in
     let r = ready (a .model) (l .status) (l .last) (l .asleep) (l .shown) (withBits (l .phase) (l .bits) (l .value)) (l .memory) (l .inv .6 .sound) in
-    rw (c .before .with-bits2 .ensures, l .inv .0) (r .sized, r .inside)
+    rw (c .before .with-bits3 .ensures, l .inv .0) (r .sized, r .inside)
+
+-- a data byte that waits lies within the memory
+end-requires : tie.Need-end-requires Inv-loop μ-loop
+end-requires c κs =
+    let l = c .before .before .before .before .before .before .before .before .before .before .before .loop in
+    let a = c .before .before .before .before .before .before .before .before .before .before .before .before .before .before .before .before .before .before .before .before .before .before .args in
+    let r = ready (a .model) (l .status) (l .last) (l .asleep) (l .shown) (withBits (l .phase) (l .bits) (l .value)) (l .memory) (l .inv .6 .sound) in
+    rw (c .before .with-bits .ensures, r .sized, l .inv .0) (end-within (partOf (a .model .part)) (r .fit) (l .status) (withBits (l .phase) (l .bits) (l .value)) (r .inside))
+
+-- the bits make a small number
+with-bits-requires : tie.Need-with-bits-requires Inv-loop μ-loop
+with-bits-requires c κs = c .before .before .before .before .before .before .before .before .before .loop .inv .4 .small
+
+with-bits-requires-2 : tie.Need-with-bits-requires-2 Inv-loop μ-loop
+with-bits-requires-2 c κs = c .before .before .before .before .before .before .before .before .before .before .before .loop .inv .4 .small
+
+with-bits-requires-3 : tie.Need-with-bits-requires-3 Inv-loop μ-loop
+with-bits-requires-3 c κs = c .before .before .before .before .before .before .before .before .before .loop .inv .4 .small
+
+with-bits-requires-4 : tie.Need-with-bits-requires-4 Inv-loop μ-loop
+with-bits-requires-4 c κs = c .before .before .loop .inv .4 .small
 
 -- ---- the next turn, by the edge that was seen
 
@@ -135,17 +160,17 @@ loop-again c =
     let levels = seen .before .before .before .levels-of in
     let next = seen .before .before .before .before .before in
     let l = next .before .before .loop in
-    let a = next .before .before .before .before .before .before .before .before .before .before .before .before .args in
+    let a = next .before .before .before .before .before .before .before .before .before .before .before .before .before .args in
     let kept = l .inv .4 in
     let w : Turned (seen .edge-of .result) (a .part) (l .status) (spiOf (levelsOf (l .last)) (l .asleep) (l .shown) (withBits (l .phase) (l .bits) (l .value))) (levels .result) (l .memory) (now .status) (now .asleep) (now .shown) (withBits (now .phase) (now .bits) (now .value)) (now .memory) × BitsIn (a .part) (now .phase) (now .bits) (now .value) (now .early) =
     ⊎-elim
-    (λ w. (record { edge = Select; seen = w .1 .given .1; memory = w .4; status = w .5; asleep = w .6; shown = w .7; phase = rw (w .8, w .9, w .10, w .2 .ensures) (selected-fresh (l .asleep)) }, rw (w .8, w .9, w .10) (none-in _ _ _ (w .11 ∙ w .3 .ensures))))
+    (λ w. (record { edge = Select; seen = w .1 .given .1; memory = w .4; status = w .5; asleep = w .6; shown = w .7; phase = rw (w .8, w .9, w .10, w .2 .ensures) (selected-fresh (l .asleep)) }, rw (w .8, w .9, w .10) (none-in _ _ _ (w .11 ∙ w .3 .ensures) (rw (w .2 .ensures) (selected-kept (l .asleep))))))
     (⊎-elim
-    (λ w. (record { edge = Deselect; seen = w .1 .given .1; memory = w .5; status = w .6 ∙ (w .2 .ensures ∙ sym (status-same (l .status) (levels .result .wp) (l .phase) (l .bits) (l .value))); asleep = w .7 ∙ (w .3 .ensures ∙ sym (asleep-same (l .asleep) (l .phase) (l .bits) (l .value))); shown = w .8; phase = rw (w .9) }, rw (w .9, w .10, w .11) (record { small = kept .small; early = w .12 ∙ w .4 .ensures })))
+    (λ w. (record { edge = Deselect; seen = w .1 .given .1; memory = w .10 ∙ rw (w .2 .ensures) at (w .4 .ensures); status = w .11 ∙ rw (w .2 .ensures) at (w .7 .ensures); asleep = w .12 ∙ rw (w .2 .ensures) at (w .8 .ensures); shown = w .13; phase = rw (w .14) }, rw (w .14, w .15, w .16) (record { small = kept .small; early = w .17 ∙ w .9 .ensures; kept = refl })))
     (⊎-elim
-    (λ w. let few = rw (kept .early) at (w .3 .taken) in (record { edge = Rise _; seen = w .1 .given .1; memory = rw (none-written _ (l .bits) (l .value) _ (l .status) (l .phase) few) (w .5); status = w .6; asleep = w .7; shown = w .8; phase = rw (w .9, w .10, w .11, w .4 .ensures) (sym (one-more _ (l .bits) (l .value) _ (l .phase) few)) }, rw (w .9, w .10, w .11, w .12, w .4 .ensures) (record { small = shifted-within (l .bits) (l .value) (w .1 .given .0 .0) (kept .small); early = kept .early })))
+    (λ w. let few = rw (kept .early) at (w .3 .taken) in (record { edge = Rise _; seen = w .1 .given .1; memory = rw (none-written _ (l .bits) (l .value) _ (l .status) (l .phase) few) (w .5); status = w .6; asleep = w .7; shown = w .8; phase = rw (w .9, w .10, w .11, w .4 .ensures) (sym (one-more _ (l .bits) (l .value) _ (l .phase) few)) }, rw (w .9, w .10, w .11, w .12, w .4 .ensures) (record { small = shifted-within (l .bits) (l .value) (w .1 .given .0 .0) (kept .small); early = kept .early; kept = kept .kept })))
     (⊎-elim
-    (λ w. let last = rw (kept .early) at (w .3 .left) in (record { edge = Rise _; seen = w .1 .given .1; memory = w .10 ∙ rw (w .4 .ensures) at (w .6 .ensures .1); status = w .11; asleep = w .12; shown = w .13; phase = rw (w .14, w .15, w .16, w .6 .ensures .0, w .4 .ensures) (fresh _ (l .bits) (l .value) _ (l .phase) last) }, rw (w .14, w .15, w .16) (none-in _ _ _ (w .17 ∙ w .9 .ensures))))
+    (λ w. (record { edge = Rise _; seen = w .1 .given .1; memory = w .12 ∙ w .6 .ensures .1 .1; status = w .13; asleep = w .14; shown = w .15; phase = rw (w .16, w .17, w .18, w .9 .ensures, w .10 .ensures, w .4 .ensures) (w .6 .ensures .0) }, rw (w .16, w .17, w .18, w .9 .ensures, w .10 .ensures) (record { small = next-small (w .4 .result) _; early = w .19 ∙ w .11 .ensures; kept = w .6 .ensures .1 .0 })))
     (⊎-elim
     (λ w. (record { edge = Fall; seen = w .1 .given .1; memory = w .5; status = w .6; asleep = w .7; shown = w .8 ∙ rw (w .2 .ensures) at (w .4 .ensures); phase = rw (w .9, w .10, w .11) }, rw (w .9, w .10, w .11, w .12) kept))
     (λ w. (record { edge = Quiet; seen = w .1 .given .1; memory = w .2; status = w .3; asleep = w .4; shown = w .5; phase = rw (w .6, w .7, w .8) }, rw (w .6, w .7, w .8, w .9) kept))))))
@@ -158,10 +183,10 @@ loop-again c =
 returns : tie.Need-returns Inv-loop μ-loop
 returns c =
     let l = c .before .before .before .before .before .loop in
-    let a = c .before .before .before .before .before .before .before .before .before .before .before .before .before .before .before .args in
+    let a = c .before .before .before .before .before .before .before .before .before .before .before .before .before .before .before .before .args in
     let no = asked (a .trace .now) 32 (answerNumber (answerAt (levelsOf (l .last)) (l .shown))) _ (l .offset) _ (c .before .before .before .before .next-is .ensures) (a .quota) (l .count) (l .inv .5) false (c .before .before .before .if1 .left) in
     let e = three _ _ (stops (l .inv .6) 32 (answerNumber (answerAt (levelsOf (l .last)) (l .shown))) (λ u. refl) no) in
-    (c .progress-at .ensures ∙ rw (c .before .on-bus .ensures, c .before .before .with-bits3 .ensures) (e .0), (e .1, e .2))
+    (c .progress-at .ensures ∙ rw (c .before .on-bus .ensures, c .before .before .with-bits4 .ensures) (e .0), (e .1, e .2))
 
 pub spi-samples-spec : {M : Type 1} → statement M
 spi-samples-spec =
@@ -169,6 +194,7 @@ spi-samples-spec =
     (tie.spec
     Inv-loop
     μ-loop
+    (λ c κs. search needs)
     (λ c κs. search needs)
     (λ c κs. search needs)
     (λ c κs. search needs)
@@ -185,17 +211,21 @@ spi-samples-spec =
     (λ c κs. search needs)
     early-of-requires-2
     (λ c. search needs)
+    with-bits-requires
+    end-requires
     (λ c κs. search needs)
     (λ c κs. search needs)
     early-of-requires-3
     (λ c. search needs)
     add-bits
     shift-in-requires
-    (λ c κs. search needs)
+    with-bits-requires-2
     rise-requires
+    (λ c κs. search needs)
+    (λ c κs. search needs)
     early-of-requires-4
     (λ c. search needs)
-    (λ c κs. search needs)
+    with-bits-requires-3
     after-fall-requires
     (λ c. search needs)
     (λ c κs. search needs)
@@ -203,7 +233,7 @@ spi-samples-spec =
     add-offset
     loop-less
     loop-again
-    (λ c κs. search needs)
+    with-bits-requires-4
     (λ c κs. search needs)
     (λ c κs. search needs)
     (λ c. search needs)

@@ -1,7 +1,9 @@
 //! Demand 3 at the proved build's pins: power is cut after every single event of a trace, and
 //! before the first. What memory and saved bits are then is told by the ledger, by selections and
 //! starts; no model of the twin is asked. So is the flag offset, after each event. Then lists of
-//! selections as bytes, cut after each.
+//! selections as bytes, cut after each. `late` has the cuts around the last rise of a data byte.
+
+mod late;
 
 use drive::script::{self, Script};
 use drive::told::Told;
