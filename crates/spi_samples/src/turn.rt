@@ -72,7 +72,7 @@ fn due_byte(part: Part, value: u32, si: bool) -> u8
 }
 
 // A counted rise that does more than add a bit: its write is stored, and the phase to be kept given back. `after_rise` and `rise_write` would
-// do; but here a data byte that waits needs no phase of its own, and the loop stays as quick as without it.
+// do; but here a data byte that waits needs no phase of its own, and the loop is quicker for it.
 pub fn rise(
     part: Part,
     status: Status,
