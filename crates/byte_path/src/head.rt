@@ -10,7 +10,7 @@ use parts::part::Part;
 use selection::phase::{Action, Field, Phase, Source};
 
 // The phase in which the head has been taken, and how many bytes it had.
-#[derive(Drop)]
+#[derive(Clone, Copy)]
 pub struct Head {
     pub phase: Phase,
     pub at: usize,

@@ -1,2 +1,3 @@
 // The bytes of a selection after its head.
+#![tactic(auto)]
 pub mod data;

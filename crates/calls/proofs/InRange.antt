@@ -24,7 +24,7 @@ use Rattle.byte_path.specs.Select.{Select, select_of}
 use Rattle.runs.specs.Event.{event_on_verdict, event_of}
 use Rattle.runs.specs.Run.{loop_of, run_on_verdict, run_of}
 use Rattle.runs.proofs.EventLaws.{event_sound}
-use Rattle.runs.proofs.RunRule.{loop-sound}
+use Rattle.runs.proofs.RunRule.{loop_sound}
 use Rattle.model.specs.declared.make.Made.{Made}
 use Rattle.model.specs.Make.{status_of, make_in, make_of}
 use Rattle.image.specs.Taken.{in_range}
@@ -69,7 +69,7 @@ unfolding run_of
 run_range q t s m h = by (check_of s (length m)) refl
   where
     by : (v : Verdict) → check_of s (length m) ≡ v → in_range (run_on_verdict v q t s m).model ≡ true
-    by Passed c = sound_range (loop_of q t s m).model (loop_of q t s m).memory (loop-sound q t s m c)
+    by Passed c = sound_range (loop_of q t s m).model (loop_of q t s m).memory (loop_sound q t s m c)
     by (Failed r) c = h
 
 -- ---- a selection as bytes

@@ -16,7 +16,7 @@ use Rattle.byte_path.specs.Select.{Select, select_of}
 use Rattle.runs.specs.Event.{event_of}
 use Rattle.runs.specs.Run.{Run, run_on_verdict, loop_of, run_of}
 use Rattle.runs.proofs.EventLaws.{event_stays}
-use Rattle.runs.proofs.RunLaws.{loop-induction}
+use Rattle.runs.proofs.RunLaws.{loop_induction}
 use Rattle.image.specs.Taken.{image_of, state_of, Bytes}
 use Rattle.calls.specs.Calls.{opens, state_number, EventCall, event_left, event_call, RunCall, run_left, run_call, SelectCall, select_left, select_call}
 use Rattle.calls.specs.Result.{event_result, run_result, select_result}
@@ -41,16 +41,16 @@ module _ (wp : Bool) (s : Model) (input output m : List ℕ) where
 abbrev NoneAccepted : Model → List ℕ → Run → Type 0
 NoneAccepted s m r = r.count ≡ 0 → (r.model ≡ s) × (r.memory ≡ m) × (r.answers ≡ [])
 
-loop-none : (q : ℕ) (t : List ℕ) (s : Model) (m : List ℕ) → NoneAccepted s m (loop_of q t s m)
-loop-none =
-    loop-induction (λ q t s m r. NoneAccepted s m r) (λ q n place t s m e z. (refl, refl, refl)) (λ q t s m some none r k z. absurd (omega arith))
+loop_none : (q : ℕ) (t : List ℕ) (s : Model) (m : List ℕ) → NoneAccepted s m (loop_of q t s m)
+loop_none =
+    loop_induction (λ q t s m r. NoneAccepted s m r) (λ q n place t s m e z. (refl, refl, refl)) (λ q t s m some none r k z. absurd (omega arith))
 
 run_none : (q : ℕ) (t : List ℕ) (s : Model) (m : List ℕ) → NoneAccepted s m (run_of q t s m)
 unfolding run_of
 run_none q t s m = by (check_of s (length m))
   where
     by : (v : Verdict) → NoneAccepted s m (run_on_verdict v q t s m)
-    by Passed = loop-none q t s m
+    by Passed = loop_none q t s m
     by (Failed r) = λ z. (refl, refl, refl)
 
 -- ---- calls on buffers of bytes

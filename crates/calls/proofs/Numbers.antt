@@ -26,7 +26,7 @@ use Rattle.events.proofs.Done.{Done, refused_with_lem, accepted_as, done}
 use Rattle.byte_path.specs.Select.{Select, select_of}
 use Rattle.runs.specs.Event.{on_read, event_on_verdict, event_of}
 use Rattle.runs.specs.Run.{run_on_verdict, loop_of, run_of}
-use Rattle.runs.proofs.RunLaws.{Stops, at_quota, at_end, at_refusal, loop-induction}
+use Rattle.runs.proofs.RunLaws.{Stops, at_quota, at_end, at_refusal, loop_induction}
 use Rattle.image.specs.Taken.{in_range, state_of}
 use Rattle.calls.specs.Calls.{opens, Numbered, event_call, run_call, select_call}
 use Rattle.calls.proofs.InRange.{event_range}
@@ -96,9 +96,9 @@ event_late s h m t = by (check_of s (length m)) (check_late s h (length m))
     by Passed k = on_read_lem (Trace.read_of (part_of s.part) t) s m (read_late (part_of s.part) t)
     by (Failed r) k = k
 
-loop-late : (quota : ℕ) (t : List ℕ) (s : Model) (m : List ℕ) → in_range s ≡ true → Late (loop_of quota t s m).number
-loop-late =
-    loop-induction (λ q t s m r. in_range s ≡ true → Late r.number) stops (λ q t s m some none r k h. k (event_range s m t h))
+loop_late : (quota : ℕ) (t : List ℕ) (s : Model) (m : List ℕ) → in_range s ≡ true → Late (loop_of quota t s m).number
+loop_late =
+    loop_induction (λ q t s m r. in_range s ≡ true → Late r.number) stops (λ q t s m some none r k h. k (event_range s m t h))
   where
     stops : (q n place : ℕ) (t : List ℕ) (s : Model) (m : List ℕ) → Stops t s m q n place → in_range s ≡ true → Late n
     stops q n place t s m at_quota h = (refl, refl)
@@ -110,7 +110,7 @@ unfolding run_of
 run_late s h quota t m = by (check_of s (length m)) (check_late s h (length m))
   where
     by : (v : Verdict) → LateVerdict v → Late (run_on_verdict v quota t s m).number
-    by Passed k = loop-late quota t s m h
+    by Passed k = loop_late quota t s m h
     by (Failed r) k = k
 
 pub select_late : (s : Model) → in_range s ≡ true → (wp : Bool) (input output m : List ℕ) → Late (select_of wp s input output m).number

@@ -9,7 +9,7 @@ use parts::part::Part;
 use parts::refusal::Refusal;
 use parts::status::Status;
 
-#[derive(Drop)]
+#[derive(Clone, Copy)]
 pub enum Verdict {
     Passed,
     Failed { refusal: Refusal },
@@ -67,7 +67,7 @@ fn placed_in(part: Part, model: Model) -> bool
 }
 
 // Number 1: part, address pins and saved bits.
-fn model_in_lem(model: Model) -> bool
+fn model_in(model: Model) -> bool
     ensures { result ≡ model_in model }
 {
     if model.part < 5 {
@@ -143,7 +143,7 @@ fn check_part(part: Part, model: Model, length: usize) -> Verdict
 pub fn check(model: Model, length: usize) -> Verdict
     ensures { result ≡ check_of model length }
 {
-    if model_in_lem(model) {
+    if model_in(model) {
         check_part(parts::part::part_of(model.part as usize), model, length)
     } else {
         failed(Refusal::ModelRange)

@@ -7,14 +7,14 @@ use parts::status::Status;
 use spi::sample::Spi;
 
 // No power, or the part's bus under power with what it keeps between samples, its phase included.
-#[derive(Drop)]
+#[derive(Clone, Copy)]
 pub enum BusState {
     Unpowered,
     SpiOn { spi: Spi },
     I2cOn { i2c: I2c },
 }
 
-#[derive(Drop)]
+#[derive(Clone, Copy)]
 pub struct Model {
     pub part: u32,
     // address pins

@@ -1,4 +1,5 @@
 // A program that takes standard input as a trace and runs it on a part: reads, shows, prints.
+#![tactic(auto)]
 ghost use Rattle.std.specs.Prelude.{◌≡◌};
 ghost use Rattle.report.specs.Report.{memory_after_run};
 

@@ -12,7 +12,7 @@ use parts::refusal::Refusal;
 use trace::event::Event;
 
 // What one event gives: number or 0, answer, warning flag, next state.
-#[derive(Drop)]
+#[derive(Clone, Copy)]
 pub struct Answered {
     pub number: u8,
     pub answer: u8,

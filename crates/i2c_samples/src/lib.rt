@@ -1,4 +1,5 @@
 // Consecutive samples of an I2C part, with expected answers that hold among them: one loop, which keeps the state of the bus in
 // locals.
+#![tactic(auto)]
 pub mod consecutive;
 pub mod turn;

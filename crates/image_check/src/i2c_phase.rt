@@ -13,10 +13,10 @@ fn low_byte(phase: PhaseFields) -> bool
 {
     let address = phase.address;
     if address == 65536 {
-        return crate::phase::bits_in_lem(phase, 9);
+        return crate::phase::bits_in(phase, 9);
     }
     if address == 0 {
-        crate::phase::bits_in_lem(phase, 9)
+        crate::phase::bits_in(phase, 9)
     } else {
         false
     }

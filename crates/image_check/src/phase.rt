@@ -21,7 +21,7 @@ pub fn bare(phase: PhaseFields) -> bool
 }
 
 // Fewer bits than the width are in, which make a number of as many bits.
-pub fn bits_in_lem(phase: PhaseFields, width: u8) -> bool
+pub fn bits_in(phase: PhaseFields, width: u8) -> bool
     requires { width ≤ 32 }
     ensures { result ≡ (ltb phase.count width && ltb phase.value (2 ^ phase.count)) }
 {
@@ -41,7 +41,7 @@ pub fn plain(phase: PhaseFields, width: u8) -> bool
         return false;
     }
     if phase.detail == 0 {
-        bits_in_lem(phase, width)
+        bits_in(phase, width)
     } else {
         false
     }
@@ -53,7 +53,7 @@ pub fn addressed(phase: PhaseFields, size: u32, width: u8) -> bool
     ensures { result ≡ (ltb phase.address size && (ltb phase.count width && ltb phase.value (2 ^ phase.count))) }
 {
     if phase.address < size {
-        bits_in_lem(phase, width)
+        bits_in(phase, width)
     } else {
         false
     }

@@ -3,7 +3,7 @@ ghost use Rattle.std.specs.Prelude.{◌≡◌};
 ghost use Rattle.image_fields.specs.Fields.{phase_fields, only_tag};
 
 // What the part waits for.
-#[derive(Drop)]
+#[derive(Clone, Copy)]
 pub struct PhaseFields {
     pub tag: u8,
     pub count: u8,
@@ -12,7 +12,7 @@ pub struct PhaseFields {
     pub detail: u8,
 }
 
-#[derive(Drop)]
+#[derive(Clone, Copy)]
 pub struct Fields {
     pub part: u8,
     pub pins: u8,

@@ -8,7 +8,7 @@ ghost use Rattle.image_run.specs.Sampled.{told_by};
 use parts::refusal::Refusal;
 
 // What an event gives besides state and memory: number or 0, answer, warning flag.
-#[derive(Drop)]
+#[derive(Clone, Copy)]
 pub struct Told {
     pub number: u8,
     pub answer: u8,

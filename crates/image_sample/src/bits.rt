@@ -19,7 +19,7 @@ fn counted(phase: PhaseFields, value: u32) -> PhaseFields
 }
 
 // By the tag's first digit: bits come in at 1, go out at 2, and no rise changes another phase.
-pub fn one_more_lem(phase: PhaseFields, bit: bool) -> PhaseFields
+pub fn one_more(phase: PhaseFields, bit: bool) -> PhaseFields
     requires { (phase.count < 255) × (phase.value < 2147483648) }
     ensures { result ≡ one_more phase bit }
 {

@@ -75,7 +75,7 @@ fn rise(fields: Fields, sample: u8, line: bool) -> Fields
         fields,
         sample,
         fields.driven,
-        crate::bits::one_more_lem(fields.phase, line),
+        crate::bits::one_more(fields.phase, line),
     )
 }
 

@@ -101,7 +101,7 @@ fn rise(fields: Fields, sample: u8, si: bool) -> Fields
     requires { (fields.phase.count < 255) × (fields.phase.value < 2147483648) }
     ensures { result ≡ spi_moved fields sample fields.status fields.driven fields.asleep (one_more fields.phase si) }
 {
-    let phase = crate::bits::one_more_lem(fields.phase, si);
+    let phase = crate::bits::one_more(fields.phase, si);
     moved(
         fields,
         sample,

@@ -3,7 +3,7 @@ ghost use Rattle.std.specs.Prelude.{◌≡◌, false};
 
 use image_fields::fields::Fields;
 
-#[derive(Drop)]
+#[derive(Clone, Copy)]
 pub struct Stepped {
     // the sample was taken here; if not, the rest says nothing
     pub done: bool,

@@ -8,7 +8,7 @@ use parts::refusal::Refusal;
 use parts::status::Status;
 
 // Number or 0, and the model.
-#[derive(Drop)]
+#[derive(Clone, Copy)]
 pub struct Made {
     pub number: u8,
     pub model: Model,

@@ -2,7 +2,7 @@
 ghost use Rattle.std.specs.Prelude.{◌≡◌, ◌<◌};
 ghost use Rattle.parts.specs.Table.{is_spi, part_of};
 
-#[derive(Drop)]
+#[derive(Clone, Copy)]
 pub enum Bus {
     Spi,
     I2c,
@@ -19,7 +19,7 @@ impl Bus {
     }
 }
 
-#[derive(Drop)]
+#[derive(Clone, Copy)]
 pub struct Part {
     pub bus: Bus,
     // bytes of memory

@@ -4,7 +4,7 @@ ghost use Rattle.parts.specs.Status.{bit, cleared, status_byte, block_bits, prot
 
 use crate::part::Part;
 
-#[derive(Drop)]
+#[derive(Clone, Copy)]
 pub struct Status {
     // status register write disable
     pub srwd: bool,

@@ -9,7 +9,7 @@ use parts::part::Part;
 use selection::phase::{Field, Phase};
 
 // What comes in: a data byte of WRITE, or anything else.
-#[derive(Drop)]
+#[derive(Clone, Copy)]
 pub enum Coming {
     DataByte { address: u32 },
     Other,

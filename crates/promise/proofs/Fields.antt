@@ -37,7 +37,7 @@ use Rattle.events.proofs.Done.{Done, refused_with_lem, accepted_as, done}
 use Rattle.runs.specs.Event.{on_read, event_on_verdict, event_of}
 use Rattle.runs.specs.Run.{Run, stop_at, after, run_on_verdict, run_of}
 use Rattle.runs.proofs.EventLaws.{event_sound, event_stays}
-use Rattle.runs.proofs.RunLaws.{taken, Stops, at_quota, at_end, at_refusal, loop-induction}
+use Rattle.runs.proofs.RunLaws.{taken, Stops, at_quota, at_end, at_refusal, loop_induction}
 use Rattle.promise.specs.Lists.{model_after, memory_after}
 use Rattle.promise.specs.Promise.{made_by}
 use Rattle.promise.specs.Reached.{Reached, by_making, by_event_lem}
@@ -327,7 +327,7 @@ run_points {s} r q t m = rw (reached_check r (length m)) (by (eqb (length m) (pa
     by : (y : Bool) → eqb (length m) (part_of s.part).size ≡ y
         → Points (part_of s.part) (length m) t (run_on_verdict (cond y Passed (Failed R.MemoryLength)) q t s m)
     by true e =
-        loop-induction (Pointing (length m)) (stops_point (length m)) (goes_on_pointing (length m)) q t s m
+        loop_induction (Pointing (length m)) (stops_point (length m)) (goes_on_pointing (length m)) q t s m
         (reached_check r (length m) ∙ ap (λ (y : Bool). cond y Passed (Failed R.MemoryLength)) e)
     by false e = points_here (length m) (part_of s.part) t 3 0 s m (number_3 (eqb-false _ _ e)) (λ h. absurd (omega arith)) refl
 

@@ -33,7 +33,7 @@ use Rattle.events.proofs.OtherEventLaws.{expected_clear}
 use Rattle.runs.specs.Event.{event_of}
 use Rattle.runs.specs.Run.{Run, after, run_on_verdict, loop_of, run_of}
 use Rattle.runs.proofs.EventLaws.{event_whole, event_stays, accepted_sound, accepted_within}
-use Rattle.runs.proofs.RunLaws.{taken, loop-induction}
+use Rattle.runs.proofs.RunLaws.{taken, loop_induction}
 use Rattle.ledger.specs.History.{Entry}
 use Rattle.ledger.specs.SpiLedger as Spi
 use Rattle.ledger.specs.I2cLedger as I2cLedger
@@ -189,15 +189,15 @@ module _ (part pins bits : ℕ) (first : List ℕ) where
           (event_of s m t).result.answer (accepted_within s m t zero_number) (λ i w. rw (further i) at w) (λ i w. rw (further i) w)
           (event_of s m t).result.flag (rw here said_here) rest
 
-  loop-flags : (q : ℕ) (t : List ℕ) (s : Model) (m : List ℕ) → Flags q t s m (loop_of q t s m)
-  loop-flags =
-      loop-induction Flags (λ q n place t s m e es a b. first_stopped _ n place t s m)
+  loop_flags : (q : ℕ) (t : List ℕ) (s : Model) (m : List ℕ) → Flags q t s m (loop_of q t s m)
+  loop_flags =
+      loop_induction Flags (λ q n place t s m e es a b. first_stopped _ n place t s m)
       (λ q t s m some none r ih es a b. more_flags q t some es s m none r ih a b)
 
   -- with 1 to 3 nothing is accepted
   run_by_lem : (v : Verdict) (es : List (List ℕ)) (quota : ℕ) (t : List ℕ)
       → FirstAt (WarnedAt part pins bits first es quota t) t (run_on_verdict v quota t (model_after model first es) (memory_after model first es))
-  run_by_lem Passed es quota t = loop-flags quota t (model_after model first es) (memory_after model first es) es refl refl
+  run_by_lem Passed es quota t = loop_flags quota t (model_after model first es) (memory_after model first es) es refl refl
   run_by_lem (Failed r) es quota t = first_stopped _ _ 0 t (model_after model first es) (memory_after model first es)
 
 pub flags_promise : (part pins bits : ℕ) (first : List ℕ) (es : List (List ℕ)) (quota : ℕ) (t : List ℕ) → FlagsPromise part pins bits first es quota t

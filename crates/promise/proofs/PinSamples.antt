@@ -28,7 +28,7 @@ use Rattle.byte_path.specs.PinPath.{Pins, sampled}
 use Rattle.runs.specs.Event.{event_of}
 use Rattle.runs.specs.Run.{Run, after, loop_of}
 use Rattle.runs.proofs.EventLaws.{event_whole, event_keeps}
-use Rattle.runs.proofs.RunLaws.{loop-over, loop-accepted}
+use Rattle.runs.proofs.RunLaws.{loop_over, loop_accepted}
 use Rattle.promise.specs.Lists.{observations, model_after, memory_after}
 use Rattle.promise.specs.RunEvents.{numbers_of, answers_of, flags_of}
 use Rattle.promise.specs.Selects.{sample_events, trace_of}
@@ -144,16 +144,16 @@ AllClear (f ∷ fs) = (f ≡ false) × AllClear fs
 abbrev pub ran_all : Pins → List ℕ → Run
 ran_all a xs = ran_to (sampled_all a xs) (answers_all a xs) (length (sample_events xs)) (length (trace_of (sample_events xs)))
 
-pub loop-all : (xs : List ℕ) (q : ℕ) (a : Pins) → Ready a → Below xs → AllClear (flags_all a xs) → length (sample_events xs) ≤ q
+pub loop_all : (xs : List ℕ) (q : ℕ) (a : Pins) → Ready a → Below xs → AllClear (flags_all a xs) → length (sample_events xs) ≤ q
     → loop_of q (trace_of (sample_events xs)) a.model a.memory ≡ ran_all a xs
-loop-all [] q a ready below clear h = loop-over [] a.model a.memory q refl
-loop-all (x ∷ xs) zero a ready below clear h = absurd (omega arith)
-loop-all (x ∷ xs) (suc q) a ready (l, below) (no_flag, clear) h =
+loop_all [] q a ready below clear h = loop_over [] a.model a.memory q refl
+loop_all (x ∷ xs) zero a ready below clear h = absurd (omega arith)
+loop_all (x ∷ xs) (suc q) a ready (l, below) (no_flag, clear) h =
     let t : List ℕ = 4 ∷ x ∷ trace_of (sample_events xs) in
     let e = sample_event a ready x l (trace_of (sample_events xs)) in
     let n = sample_accepted a ready x l in
-    let k = loop-all xs q (sampled a x) (sample_ready a ready x l) below clear (omega arith) in
-    loop-accepted t a.model a.memory q (λ z. omega arith) (rw e n)
+    let k = loop_all xs q (sampled a x) (sample_ready a ready x l) below clear (omega arith) in
+    loop_accepted t a.model a.memory q (λ z. omega arith) (rw e n)
     ∙ rw (e, k, no_flag) (one_more_lem (sampled_all a (x ∷ xs)) (sampled a x).answer (answers_all (sampled a x) xs) (length (sample_events xs)) (length (trace_of (sample_events xs))))
   where
     one_more_lem : (b : Pins) (v : ℕ) (vs : List ℕ) (c o : ℕ) → after v false 2 (ran_to b vs c o) ≡ ran_to b (v ∷ vs) (suc c) (suc (suc o))

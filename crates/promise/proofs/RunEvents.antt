@@ -23,7 +23,7 @@ use Rattle.runs.specs.Event.{event_of}
 use Rattle.runs.specs.Event as One
 use Rattle.runs.specs.Run.{Run, stop_at, after, run_on_verdict, loop_of, run_of}
 use Rattle.runs.proofs.EventLaws.{accepted_within}
-use Rattle.runs.proofs.RunLaws.{taken, Stops, at_quota, at_end, at_refusal, loop-induction}
+use Rattle.runs.proofs.RunLaws.{taken, Stops, at_quota, at_end, at_refusal, loop_induction}
 use Rattle.promise.specs.Lists.{model_after, memory_after}
 use Rattle.promise.specs.Promise.{made_by}
 use Rattle.promise.specs.RunEvents.{split, ByEvents, Call, ran_by, model_run, memory_run, events_run, RunsPromise}
@@ -130,8 +130,8 @@ goes_on_ran q t s m some none r k =
     rw (ne_eqb _ _ some)
     (rw e at (ran_more (split q (drop (taken t) t)) t s m (take (taken t) t) r (accepted_within s m t none) (rw e none) (rw e k)))
 
-loop-ran : (q : ℕ) (t : List ℕ) (s : Model) (m : List ℕ) → ByEvents (split q t) t s m (loop_of q t s m)
-loop-ran = loop-induction Ran stops_ran goes_on_ran
+loop_ran : (q : ℕ) (t : List ℕ) (s : Model) (m : List ℕ) → ByEvents (split q t) t s m (loop_of q t s m)
+loop_ran = loop_induction Ran stops_ran goes_on_ran
 
 -- for any state, memory, trace and quota
 pub run_events : (q : ℕ) (t : List ℕ) (s : Model) (m : List ℕ) → ByEvents (split q t) t s m (run_of q t s m)
@@ -139,7 +139,7 @@ unfolding run_of event_of
 run_events q t s m = by (check_of s (length m)) refl
   where
     by : (v : Verdict) → check_of s (length m) ≡ v → ByEvents (split q t) t s m (run_on_verdict v q t s m)
-    by Passed e = loop-ran q t s m
+    by Passed e = loop_ran q t s m
     by (Failed r) e = ran_refused (split q t) t s m (refusal_number r) 0 (number_positive r) (failed (get_or (split q t) 0 []))
       where
         failed : (u : List ℕ) → (event_of s m u).result.number ≡ refusal_number r

@@ -23,7 +23,7 @@ use Rattle.byte_path.specs.PinPath.{sample_of, Pins, sampled, bits_of, clocked_a
 use Rattle.byte_path.specs.Select.{Select, refused_select, taken_select, sized_select, bus_select, verdict_select, select_of}
 use Rattle.runs.specs.Run.{run_of}
 use Rattle.promise.specs.Selects.{byte_samples, bit_samples, select_samples, sample_events, trace_of, pin_events, before_rises, bytes_in, backs_in, pin_answers, AsEvents}
-use Rattle.promise.proofs.PinSamples.{spi_powered, Ready, Below, sampled_all, answers_all, spelt, loop-all}
+use Rattle.promise.proofs.PinSamples.{spi_powered, Ready, Below, sampled_all, answers_all, spelt, loop_all}
 use Rattle.promise.proofs.StillSamples.{Before, all_clear, still_select, clear_flags}
 
 -- ---- the samples are in range, and so many
@@ -162,5 +162,5 @@ module _ (wp : Bool) (s : Model) (input output m : List ℕ) where
         buffer = ap (λ (y : Select). y.output) t.all ∙ sym (ap bytes_of backs);
         first = ap (λ (y : Select). y.first) t.all ∙ sym (ap first_driven backs);
         count = ap (λ (y : Select). y.count) t.all ∙ sym (ap driven_count backs);
-        run = λ quota l. rw t.ready.sound (loop-all xs quota start t.ready (below_select wp input) clear l ∙ rw (model, memory, ← k.answers));
+        run = λ quota l. rw t.ready.sound (loop_all xs quota start t.ready (below_select wp input) clear l ∙ rw (model, memory, ← k.answers));
       }

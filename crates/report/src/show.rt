@@ -4,7 +4,7 @@ ghost use Rattle.std.proofs.lemmas.List.Edits.{sets};
 ghost use Rattle.report.specs.Report.{report_of, text_of, memory_after_run};
 
 // What the run gave; the text of its answers has length bytes.
-#[derive(Drop)]
+#[derive(Clone, Copy)]
 pub struct Report {
     pub long: bool,
     pub number: u8,

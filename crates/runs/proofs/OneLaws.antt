@@ -19,7 +19,7 @@ use Rattle.runs.specs.declared.run.Ran.{Ran}
 use Rattle.runs.specs.Event.{checked_event, event_of}
 use Rattle.runs.specs.Run.{Run, ran_of, loop_of}
 use Rattle.runs.proofs.EventLaws.{event_stays, accepted_within}
-use Rattle.runs.proofs.RunLaws.{taken, loop-refused, loop-accepted}
+use Rattle.runs.proofs.RunLaws.{taken, loop_refused, loop_accepted}
 
 -- what a run gives as an event, with its answers in a buffer of one byte that held 2
 abbrev as_event : Run → Answered
@@ -58,11 +58,11 @@ module _ (s : Model) (m t : List ℕ) (sound : Sound s m) where
       by : (y : Bool) → eqb (event_of s m t).result.number 0 ≡ y → (as_event (loop_of 1 t s m) ≡ (event_of s m t).result) × ((loop_of 1 t s m).memory ≡ (event_of s m t).memory)
       by true y = let z = eqb-true _ _ y in
           let f = flag_here some (taken t) (accepted_within s m t z) (event_of s m t).result.flag in
-          rw (loop-accepted t s m 0 some z, f) (accepted_same (event_of s m t).result z, refl)
+          rw (loop_accepted t s m 0 some z, f) (accepted_same (event_of s m t).result z, refl)
       by false y =
           let z = eqb-false _ _ y in
           let k = event_stays s m t in
-          rw (loop-refused t s m 0 some z, ne_eqb (length t) 0 some)
+          rw (loop_refused t s m 0 some z, ne_eqb (length t) 0 some)
           (refused_same (event_of s m t).result (k.refused_answer z) (k.refused_flag z) (k.refused_model z), sym (k.refused_memory z))
 
   -- what the call gave, as the event

@@ -13,7 +13,7 @@ use Rattle.chip.specs.Check.{check_of}
 use Rattle.runs.specs.Event.{event_of}
 use Rattle.runs.specs.Run.{Run, after, run_on_verdict, loop_of, run_of}
 use Rattle.runs.specs.Rules.{Counted}
-use Rattle.runs.proofs.RunLaws.{taken, loop-induction}
+use Rattle.runs.proofs.RunLaws.{taken, loop_induction}
 
 one_more_lem : (t : List ℕ) (r : Run) (a : ℕ) (f : Bool) (n : ℕ) → 1 ≤ n → (length t ≡ 0 → ⊥) → Counted (length (drop n t)) r → Counted (length t) (after a f n r)
 one_more_lem t r a f n l some k =
@@ -24,9 +24,9 @@ one_more_lem t r a f n l some k =
     by zero z h = absurd (z refl)
     by (suc b) z h = omega arith
 
-loop-counted : (q : ℕ) (t : List ℕ) (s : Model) (m : List ℕ) → Counted (length t) (loop_of q t s m)
-loop-counted =
-    loop-induction (λ q t s m r. Counted (length t) r)
+loop_counted : (q : ℕ) (t : List ℕ) (s : Model) (m : List ℕ) → Counted (length t) (loop_of q t s m)
+loop_counted =
+    loop_induction (λ q t s m r. Counted (length t) r)
     (λ q n place t s m e. record { answered = refl; within = omega arith })
     (λ q t s m some none r k. one_more_lem t r _ (event_of s m t).result.flag (taken t) (length_positive (get_or t 0 0)) some k)
 
@@ -35,5 +35,5 @@ unfolding run_of
 run_counted q t s m = by (check_of s (length m))
   where
     by : (v : Verdict) → Counted (length t) (run_on_verdict v q t s m)
-    by Passed = loop-counted q t s m
+    by Passed = loop_counted q t s m
     by (Failed r) = record { answered = refl; within = omega arith }

@@ -43,23 +43,23 @@ fault s t = place_of (read_of (part_of s.part) t)
 
 module _ (t : List ℕ) (s : Model) (m : List ℕ) where
   -- at the end of the trace
-  pub loop-over : (q : ℕ) → length t ≡ 0 → loop_of q t s m ≡ stop 0 t s m
+  pub loop_over : (q : ℕ) → length t ≡ 0 → loop_of q t s m ≡ stop 0 t s m
   unfolding loop_of
-  loop-over zero h = refl
-  loop-over (suc q) h = rw (eq-eqb _ _ h)
+  loop_over zero h = refl
+  loop_over (suc q) h = rw (eq-eqb _ _ h)
 
   -- at a refused event
-  pub loop-refused : (q : ℕ) → (length t ≡ 0 → ⊥) → ((event_of s m t).result.number ≡ 0 → ⊥)
+  pub loop_refused : (q : ℕ) → (length t ≡ 0 → ⊥) → ((event_of s m t).result.number ≡ 0 → ⊥)
       → loop_of (suc q) t s m ≡ stop_at (event_of s m t).result.number (fault s t) t s m
   unfolding loop_of
-  loop-refused q h n = rw (ne_eqb _ _ h, ne_eqb _ _ n)
+  loop_refused q h n = rw (ne_eqb _ _ h, ne_eqb _ _ n)
 
   -- at an accepted one
-  pub loop-accepted : (q : ℕ) → (length t ≡ 0 → ⊥) → (event_of s m t).result.number ≡ 0
+  pub loop_accepted : (q : ℕ) → (length t ≡ 0 → ⊥) → (event_of s m t).result.number ≡ 0
       → loop_of (suc q) t s m
       ≡ after (event_of s m t).result.answer (event_of s m t).result.flag (taken t) (loop_of q (drop (taken t) t) (event_of s m t).result.model (event_of s m t).memory)
   unfolding loop_of
-  loop-accepted q h n = rw (ne_eqb _ _ h, eq-eqb _ _ n)
+  loop_accepted q h n = rw (ne_eqb _ _ h, eq-eqb _ _ n)
 
 -- ---- what holds of every run
 
@@ -75,27 +75,27 @@ module _ (P : ℕ → List ℕ → Model → List ℕ → Run → Type 0)
     (goes_on : (q : ℕ) (t : List ℕ) (s : Model) (m : List ℕ) → (length t ≡ 0 → ⊥) → (event_of s m t).result.number ≡ 0 → (r : Run)
     → P q (drop (taken t) t) (event_of s m t).result.model (event_of s m t).memory r
     → P (suc q) t s m (after (event_of s m t).result.answer (event_of s m t).result.flag (taken t) r)) where
-  pub loop-induction : (q : ℕ) (t : List ℕ) (s : Model) (m : List ℕ) → P q t s m (loop_of q t s m)
+  pub loop_induction : (q : ℕ) (t : List ℕ) (s : Model) (m : List ℕ) → P q t s m (loop_of q t s m)
   unfolding loop_of
-  loop-induction zero t s m = stops 0 0 0 t s m at_quota
-  loop-induction (suc q) t s m =
+  loop_induction zero t s m = stops 0 0 0 t s m at_quota
+  loop_induction (suc q) t s m =
       by (eqb (length t) 0) (eqb (event_of s m t).result.number 0) refl refl
-      (loop-induction q (drop (taken t) t) (event_of s m t).result.model (event_of s m t).memory)
+      (loop_induction q (drop (taken t) t) (event_of s m t).result.model (event_of s m t).memory)
     where
       next : Run
       next = loop_of q (drop (taken t) t) (event_of s m t).result.model (event_of s m t).memory
 
       by : (a b : Bool) → eqb (length t) 0 ≡ a → eqb (event_of s m t).result.number 0 ≡ b
           → P q (drop (taken t) t) (event_of s m t).result.model (event_of s m t).memory next → P (suc q) t s m (loop_of (suc q) t s m)
-      by true b x y k = let z = eqb-true _ _ x in rw (loop-over t s m (suc q) z) (stops (suc q) 0 0 t s m (at_end z))
+      by true b x y k = let z = eqb-true _ _ x in rw (loop_over t s m (suc q) z) (stops (suc q) 0 0 t s m (at_end z))
       by false true x y k =
           let some = eqb-false _ _ x in
           let none = eqb-true _ _ y in
-          rw (loop-accepted t s m q some none) (goes_on q t s m some none next k)
+          rw (loop_accepted t s m q some none) (goes_on q t s m some none next k)
       by false false x y k =
           let some = eqb-false _ _ x in
           let not-0 = eqb-false _ _ y in
-          rw (loop-refused t s m q some not-0) (stops (suc q) _ _ t s m (at_refusal some not-0))
+          rw (loop_refused t s m q some not-0) (stops (suc q) _ _ t s m (at_refusal some not-0))
 
 -- what is read there, of the part of the state
 pub read_on : (p : Part) (s : Model) (t : List ℕ) (o : ℕ) {r : Read} → p ≡ part_of s.part → read_of p (take (length t - o) (drop o t)) ≡ r
@@ -137,7 +137,7 @@ module _ (t : List ℕ) (q f c o : ℕ) (s : Model) (m buf : List ℕ) (within :
   left_used h = let e : q - c ≡ 0 = omega arith in stopped_here 0 (rw e)
 
   pub left_over : length t ≤ o → final (length t) f c o buf left ≡ final_of (ran 0 s c o f) m buf
-  left_over h = stopped_here 0 (loop-over (drop o t) s m (q - c) (rw length-drop (omega arith)))
+  left_over h = stopped_here 0 (loop_over (drop o t) s m (q - c) (rw length-drop (omega arith)))
 
   module _ (more : c < q) (inside : o < length t) where
     some : length (drop o t) ≡ 0 → ⊥
@@ -148,14 +148,14 @@ module _ (t : List ℕ) (q f c o : ℕ) (s : Model) (m buf : List ℕ) (within :
 
     pub left_refused : ((event_of s m (drop o t)).result.number ≡ 0 → ⊥)
         → final (length t) f c o buf left ≡ final_of (ran (event_of s m (drop o t)).result.number s c (o + fault s (drop o t)) f) m buf
-    left_refused n = stopped _ _ (rw one_more_lem (loop-refused (drop o t) s m (q - (c + 1)) some n))
+    left_refused n = stopped _ _ (rw one_more_lem (loop_refused (drop o t) s m (q - (c + 1)) some n))
 
     pub left_accepted : (event_of s m (drop o t)).result.number ≡ 0
         → final (length t) f c o buf left
         ≡ final (length t) (flag_at (length t) f o (event_of s m (drop o t)).result.flag) (c + 1) (o + taken (drop o t)) (set buf c (event_of s m (drop o t)).result.answer)
         (loop_of (q - (c + 1)) (drop (o + taken (drop o t)) t) (event_of s m (drop o t)).result.model (event_of s m (drop o t)).memory)
     left_accepted n =
-        rw (one_more_lem, loop-accepted (drop o t) s m (q - (c + 1)) some n, drop-drop, first_step (length t) f o (taken (drop o t)) _ _ inside, ← add_assoc, ← add_assoc, add-one c)
+        rw (one_more_lem, loop_accepted (drop o t) s m (q - (c + 1)) some n, drop-drop, first_step (length t) f o (taken (drop o t)) _ _ inside, ← add_assoc, ← add_assoc, add-one c)
 
 -- ---- the same by what the reader finds, on a state and a memory that passed
 

@@ -19,7 +19,7 @@ use Rattle.runs.specs.Event.{event_of}
 use Rattle.runs.specs.Run.{Run, stop, stop_at, after, run_on_verdict, loop_of, run_of}
 use Rattle.runs.specs.Rules.{joined_runs}
 use Rattle.runs.proofs.EventLaws.{event_sound, accepted_within}
-use Rattle.runs.proofs.RunLaws.{taken, loop-over, loop-accepted, Stops, at_quota, at_end, at_refusal, loop-induction}
+use Rattle.runs.proofs.RunLaws.{taken, loop_over, loop_accepted, Stops, at_quota, at_end, at_refusal, loop_induction}
 
 -- the run of k events on what a first run leaves
 abbrev pub rest : ℕ → List ℕ → Run → Run
@@ -27,9 +27,9 @@ rest k t r = loop_of k (drop r.offset t) r.model r.memory
 
 -- ---- state and memory that passed still pass after a run
 
-pub loop-sound : (q : ℕ) (t : List ℕ) (s : Model) (m : List ℕ) → Sound s m → Sound (loop_of q t s m).model (loop_of q t s m).memory
-loop-sound =
-    loop-induction (λ q t s m r. Sound s m → Sound r.model r.memory)
+pub loop_sound : (q : ℕ) (t : List ℕ) (s : Model) (m : List ℕ) → Sound s m → Sound (loop_of q t s m).model (loop_of q t s m).memory
+loop_sound =
+    loop_induction (λ q t s m r. Sound s m → Sound r.model r.memory)
     (λ q n place t s m e h. h)
     (λ q t s m some none r k h. k (event_sound s m t h))
 
@@ -50,21 +50,21 @@ module _ (k : ℕ) where
 
   rule_stops : (j n place : ℕ) (t : List ℕ) (s : Model) (m : List ℕ) → Stops t s m j n place → First j t s m (stop_at n place t s m)
   rule_stops j n place t s m at_quota h = rw zero-add (sym (joined_start t s m (loop_of k t s m)))
-  rule_stops j n place t s m (at_end {q} z) h = rw (loop-over t s m (suc q + k) z) (sym (joined_start t s m _ ∙ loop-over t s m k z))
+  rule_stops j n place t s m (at_end {q} z) h = rw (loop_over t s m (suc q + k) z) (sym (joined_start t s m _ ∙ loop_over t s m k z))
   rule_stops j n place t s m (at_refusal some not-0) h = absurd (not-0 h)
 
   rule_goes_on : (j : ℕ) (t : List ℕ) (s : Model) (m : List ℕ) → (length t ≡ 0 → ⊥) → (event_of s m t).result.number ≡ 0 → (r : Run)
       → First j (drop (taken t) t) (event_of s m t).result.model (event_of s m t).memory r
       → First (suc j) t s m (after (event_of s m t).result.answer (event_of s m t).result.flag (taken t) r)
   rule_goes_on j t s m some none r ih h =
-      rw (suc-add, loop-accepted t s m (j + k) some none, ih h, drop-drop)
+      rw (suc-add, loop_accepted t s m (j + k) some none, ih h, drop-drop)
       (sym
       (joined_after t (event_of s m t).result.answer (event_of s m t).result.flag (taken t) r
       (loop_of k (drop (taken t + r.offset) t) r.model r.memory) (omega arith) (accepted_within s m t none)))
 
 pub loop_rule : (j k : ℕ) (t : List ℕ) (s : Model) (m : List ℕ) → (loop_of j t s m).number ≡ 0
     → loop_of (j + k) t s m ≡ joined_runs (length t) (loop_of j t s m) (rest k t (loop_of j t s m))
-loop_rule j k t s m = loop-induction (First k) (rule_stops k) (rule_goes_on k) j t s m
+loop_rule j k t s m = loop_induction (First k) (rule_stops k) (rule_goes_on k) j t s m
 
 pub run_rule : (j k : ℕ) (t : List ℕ) (s : Model) (m : List ℕ) → (run_of j t s m).number ≡ 0
     → run_of (j + k) t s m ≡ joined_runs (length t) (run_of j t s m) (run_of k (drop (run_of j t s m).offset t) (run_of j t s m).model (run_of j t s m).memory)
@@ -75,5 +75,5 @@ run_rule j k t s m h = by (check_of s (length m)) refl h
         → run_on_verdict v (j + k) t s m
         ≡ joined_runs (length t) (run_on_verdict v j t s m)
         (run_of k (drop (run_on_verdict v j t s m).offset t) (run_on_verdict v j t s m).model (run_on_verdict v j t s m).memory)
-    by Passed e z = rw (loop-sound j t s m e) (loop_rule j k t s m z)
+    by Passed e z = rw (loop_sound j t s m e) (loop_rule j k t s m z)
     by (Failed r) e z = absurd (number_positive r z)

@@ -27,7 +27,7 @@ use Rattle.samples.proofs.NextLaws.{next_read, next_other, next_accepted}
 use Rattle.samples.proofs.SamplesLaws.{none_left, samples_zero, samples_none, samples_one}
 use Rattle.runs.specs.Run.{Run, after, loop_of}
 use Rattle.runs.proofs.EventLaws.{event_whole, event_taken, event_keeps}
-use Rattle.runs.proofs.RunLaws.{Final, final, loop-accepted}
+use Rattle.runs.proofs.RunLaws.{Final, final, loop_accepted}
 use Rattle.runs.proofs.SetsLaws.{sets_append}
 
 -- consecutive samples and expected answers of a trace of n bytes, then a run: counts and offsets added, answers put together, the first
@@ -81,7 +81,7 @@ module _ (q : ℕ) (t : List ℕ) (s : Model) (m : List ℕ) (sound : Sound s m)
       let w = event_whole s m t sound (first_event t) 2 h in
       let k = event_taken s m t sound (first_event t) 2 h in
       let l = taken_within _ t _ 2 h in
-      rw (w, k) at (loop-accepted t s m q (λ z. omega arith) (rw w (next_accepted s m sound t next)))
+      rw (w, k) at (loop_accepted t s m q (λ z. omega arith) (rw w (next_accepted s m sound t next)))
 
   pub first_sound : Sound (first_done s m t).result.model (first_done s m t).memory
   first_sound = event_keeps s m t sound (first_event t) 2 (next_read s m sound t next)

@@ -8,7 +8,7 @@ use chip::model::Model;
 
 // Number or 0, state, how many events are accepted, and two offsets. The first is that of the first byte of the bad field with 6, 10 and
 // 11, else how many bytes these events take; the second is that of the first of them that is flagged, or the length of the trace.
-#[derive(Drop)]
+#[derive(Clone, Copy)]
 pub struct Ran {
     pub number: u8,
     pub model: Model,

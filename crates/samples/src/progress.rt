@@ -10,7 +10,7 @@ use parts::status::Status;
 
 // State, how many events are accepted, how many bytes of the trace these take, and the offset of the first flagged one, which is the
 // length of the trace if there is none.
-#[derive(Drop)]
+#[derive(Clone, Copy)]
 pub struct Progress {
     pub model: Model,
     pub count: usize,

@@ -4,7 +4,7 @@ ghost use Rattle.selection.specs.Edge.{edge_of, clock_edge};
 
 use crate::levels::Levels;
 
-#[derive(Drop)]
+#[derive(Clone, Copy)]
 pub enum Edge {
     // CS# falls
     Select,

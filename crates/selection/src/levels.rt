@@ -2,7 +2,7 @@
 ghost use Rattle.std.specs.Prelude.{◌≡◌};
 ghost use Rattle.selection.specs.Levels.{levels_of, sample_of};
 
-#[derive(Drop)]
+#[derive(Clone, Copy)]
 pub struct Levels {
     pub cs: bool,
     pub sck: bool,

@@ -4,7 +4,7 @@ ghost use Rattle.selection.specs.Opcode.{command_of};
 
 use parts::part::Part;
 
-#[derive(Drop)]
+#[derive(Clone, Copy)]
 pub enum Command {
     WREN,
     WRDI,

@@ -5,7 +5,7 @@ ghost use Rattle.selection.specs.Phase.{width};
 use parts::part::Part;
 
 // The bits that come in.
-#[derive(Drop)]
+#[derive(Clone, Copy)]
 pub enum Field {
     Opcode,
     ReadAddress,
@@ -20,7 +20,7 @@ pub enum Field {
 }
 
 // Where the bits that go out come from.
-#[derive(Drop)]
+#[derive(Clone, Copy)]
 pub enum Source {
     Memory { address: u32 },
     Register,
@@ -29,7 +29,7 @@ pub enum Source {
 }
 
 // What is done when CS# rises.
-#[derive(Drop)]
+#[derive(Clone, Copy)]
 pub enum Action {
     SetLatch,
     ClearLatch,
@@ -37,7 +37,7 @@ pub enum Action {
     WriteStatus { byte: u8 },
 }
 
-#[derive(Drop)]
+#[derive(Clone, Copy)]
 pub enum Phase {
     // no selection
     Rest,

@@ -6,7 +6,7 @@ ghost use Rattle.selection.specs.Ranges.{field_in, source_in, phase_in};
 use crate::phase::{Field, Phase, Source};
 use parts::part::Part;
 
-fn field_in_lem(part: Part, field: Field) -> bool
+fn field_in(part: Part, field: Field) -> bool
     ensures { result ≡ field_in part field }
 {
     match field {
@@ -20,7 +20,7 @@ fn field_in_lem(part: Part, field: Field) -> bool
     }
 }
 
-fn source_in_lem(part: Part, source: Source) -> bool
+fn source_in(part: Part, source: Source) -> bool
     ensures { result ≡ source_in part source }
 {
     match source {
@@ -42,7 +42,7 @@ pub fn phase_in(part: Part, phase: Phase) -> bool
             count,
             value,
         } => {
-            if field_in_lem(part, field) {
+            if field_in(part, field) {
                 if count < crate::phase::width(part, field) {
                     serial::bits::has_bits(value, count)
                 } else {
@@ -53,7 +53,7 @@ pub fn phase_in(part: Part, phase: Phase) -> bool
             }
         }
         Phase::Showing { source, bit } => {
-            if source_in_lem(part, source) {
+            if source_in(part, source) {
                 bit < 8
             } else {
                 false

@@ -10,7 +10,7 @@ use parts::refusal::Refusal;
 use spi::sample::Spi;
 
 // Number or 0, the next state, the index of the first driven byte and how many are driven.
-#[derive(Drop)]
+#[derive(Clone, Copy)]
 pub struct Selected {
     pub number: u8,
     pub model: Model,

@@ -16,7 +16,7 @@ use selection::phase::Phase;
 use spi::sample::Spi;
 
 // The next state, the index of the first driven byte and how many are driven.
-#[derive(Drop)]
+#[derive(Clone, Copy)]
 pub struct Taken {
     pub model: Model,
     pub first: usize,

@@ -9,7 +9,7 @@ use parts::part::Part;
 use trace::read::Read;
 
 // Number or 0, state, and the offset: after the event if it is accepted, else where the refusal points.
-#[derive(Drop)]
+#[derive(Clone, Copy)]
 pub struct Other {
     pub number: u8,
     pub model: Model,

@@ -4,7 +4,7 @@ ghost use Rattle.trace.specs.Event.{sample_limit};
 
 use parts::part::Bus;
 
-#[derive(Drop)]
+#[derive(Clone, Copy)]
 pub enum Event {
     // kind 01
     SpiPowerOn { sample: u8 },

@@ -7,7 +7,7 @@ use crate::event::Event;
 use parts::part::{Bus, Part};
 use parts::refusal::Refusal;
 
-#[derive(Drop)]
+#[derive(Clone, Copy)]
 pub enum Read {
     // a whole event and how many bytes it takes
     Whole { event: Event, taken: usize },

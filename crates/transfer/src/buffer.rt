@@ -7,7 +7,7 @@ ghost use Rattle.transfer.specs.Ranges.{PhaseIn};
 use crate::phase::{Field, Phase};
 use parts::part::Part;
 
-#[derive(Drop)]
+#[derive(Clone, Copy)]
 pub struct AddressBuffer {
     pub address: u32,
     pub used: bool,

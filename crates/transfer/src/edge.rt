@@ -4,7 +4,7 @@ ghost use Rattle.transfer.specs.Edge.{line_of, edge_on, edge_of};
 
 use crate::levels::Levels;
 
-#[derive(Drop)]
+#[derive(Clone, Copy)]
 pub enum Edge {
     Start,
     Stop,

@@ -5,7 +5,7 @@ ghost use Rattle.transfer.specs.Ranges.{field_in, phase_in};
 use crate::phase::{Field, Phase};
 use parts::part::Part;
 
-fn field_in_lem(part: Part, field: Field) -> bool
+fn field_in(part: Part, field: Field) -> bool
     ensures { result ≡ field_in part field }
 {
     match field {
@@ -27,7 +27,7 @@ pub fn phase_in(part: Part, phase: Phase) -> bool
             count,
             value,
         } => {
-            if field_in_lem(part, field) {
+            if field_in(part, field) {
                 if count <= 8 {
                     serial::bits::has_bits(value, count)
                 } else {

@@ -4,7 +4,7 @@ ghost use Rattle.transfer.specs.Word.{own, top_bit, word_of};
 
 use parts::part::Part;
 
-#[derive(Drop)]
+#[derive(Clone, Copy)]
 pub enum DeviceWord {
     ReadWord { a16: bool },
     WriteWord { a16: bool },

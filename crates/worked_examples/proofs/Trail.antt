@@ -59,7 +59,7 @@ use Rattle.runs.specs.Event as Events
 use Rattle.runs.specs.Event.{event_of}
 use Rattle.runs.specs.Run as Runs
 use Rattle.runs.specs.Run.{Run, stop_at, after, loop_of, run_of}
-use Rattle.runs.proofs.RunLaws.{taken, fault, Stops, at_quota, at_end, at_refusal, loop-induction}
+use Rattle.runs.proofs.RunLaws.{taken, fault, Stops, at_quota, at_end, at_refusal, loop_induction}
 use Rattle.worked_examples.specs.Cases.{Cell, cell, with_cells}
 
 -- ---- bytes by address
@@ -358,9 +358,9 @@ goes_on_by quota t s m some none r k size f e h =
     rw (v, ne_eqb _ _ some, eq-eqb _ _ (rw v at none))
     (ap (after d.result.answer d.result.flag (taken t)) next ∙ after_by_lem d.result.answer d.result.flag (taken t) m d.write _)
 
-loop-by : (quota size : ℕ) (t : List ℕ) (s : Model) (m : List ℕ) (f : ℕ → ℕ) → length m ≡ size → Reads m f
+loop_by : (quota size : ℕ) (t : List ℕ) (s : Model) (m : List ℕ) (f : ℕ → ℕ) → length m ≡ size → Reads m f
     → loop_of quota t s m ≡ run_from m (loop_by quota size t s f)
-loop-by quota size t s m f e h = loop-induction By stops_by goes_on_by quota t s m size f e h
+loop_by quota size t s m f e h = loop_induction By stops_by goes_on_by quota t s m size f e h
 
 pub run_by_lem : (quota size : ℕ) (t : List ℕ) (s : Model) (m : List ℕ) (f : ℕ → ℕ) → length m ≡ size → Reads m f
     → run_of quota t s m ≡ run_from m (run_by quota size t s f)
@@ -368,5 +368,5 @@ unfolding run_of
 run_by_lem quota size t s m f e h = rw e (by (check_of s size))
   where
     by : (v : Verdict) → Runs.run_on_verdict v quota t s m ≡ run_from m (run_verdict_by v quota size t s f)
-    by Passed = loop-by quota size t s m f e h
+    by Passed = loop_by quota size t s m f e h
     by (Failed r) = refl
