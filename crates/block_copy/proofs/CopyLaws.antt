@@ -18,26 +18,23 @@ module _ (src dst : List ℕ) (at k : ℕ) (h : at + k ≤ length src) (l : leng
   part_length : length (take k (drop at src)) ≡ k
   part_length = length-take-le k (drop at src) (simp length-drop (omega arith))
 
-  all_of_part : take k (take k (drop at src)) ≡ take k (drop at src)
-  all_of_part = take_all k (take k (drop at src)) (omega (arith, part_length))
-
   -- a block into which the part was copied is the part
   pub block_is : (blank block : List ℕ) → length blank ≡ k
-      → block ≡ take (length (take (at + k - at) (drop at src))) (take (at + k - at) (drop at src)) ++ drop (length (take (at + k - at) (drop at src))) blank
+      → block ≡ take (at + k - at) (drop at src) ++ drop (length (take (at + k - at) (drop at src))) blank
       → block ≡ take k (drop at src)
   block_is blank block b e =
       let count : at + k - at ≡ k = omega arith in
       let none : drop k blank ≡ [] = drop_of_length-le blank {i = k} (omega (arith, b)) in
-      simp (count, part_length, all_of_part, none, append-nil) at e
+      simp (count, part_length, none, append-nil) at e
 
   -- the part copied to its place
   pub part_put : (part new : List ℕ) → part ≡ take k (drop at src)
-      → new ≡ take (length part) part ++ drop (length part) (take (length dst - at) (drop at dst))
+      → new ≡ part ++ drop (length part) (take (length dst - at) (drop at dst))
       → take at dst ++ (new ++ drop (length dst - at) (drop at dst)) ≡ take at dst ++ (take k (drop at src) ++ drop (at + k) dst)
   part_put part new p q =
       let all-of-rest : take (length dst - at) (drop at dst) ≡ drop at dst = take_all (length dst - at) (drop at dst) (simp length-drop (omega arith)) in
       let no-rest : drop (length dst - at) (drop at dst) ≡ [] = drop_of_length-le (drop at dst) {i = length dst - at} (simp length-drop (omega arith)) in
-      let front : new ≡ take k (drop at src) ++ drop (at + k) dst = simp (p, part_length, all-of-rest, all_of_part, drop-drop) at q in
+      let front : new ≡ take k (drop at src) ++ drop (at + k) dst = simp (p, part_length, all-of-rest, drop-drop) at q in
       rw (no-rest, front, append-nil)
 
 -- where all bytes up to a place are in, those up to k further are in with the part of k bytes

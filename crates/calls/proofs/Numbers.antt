@@ -100,10 +100,10 @@ loop_late : (quota : ℕ) (t : List ℕ) (s : Model) (m : List ℕ) → in_range
 loop_late =
     loop_induction (λ q t s m r. in_range s ≡ true → Late r.number) stops (λ q t s m some none r k h. k (event_range s m t h))
   where
-    stops : (q n place : ℕ) (t : List ℕ) (s : Model) (m : List ℕ) → Stops t s m q n place → in_range s ≡ true → Late n
-    stops q n place t s m at_quota h = (refl, refl)
-    stops q n place t s m (at_end z) h = (refl, refl)
-    stops q n place t s m (at_refusal some not-0) h = event_late s h m t
+    stops : (q : ℕ) (t : List ℕ) (s : Model) (m : List ℕ) (n place : ℕ) → Stops t s m q n place → in_range s ≡ true → Late n
+    stops q t s m n place at_quota h = (refl, refl)
+    stops q t s m n place (at_end z) h = (refl, refl)
+    stops q t s m n place (at_refusal some not-0) h = event_late s h m t
 
 pub run_late : (s : Model) → in_range s ≡ true → (quota : ℕ) (t m : List ℕ) → Late (run_of quota t s m).number
 unfolding run_of

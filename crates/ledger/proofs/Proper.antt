@@ -74,7 +74,7 @@ proper_last n (u ∷ ws) w h = proper_last n ws w h.1
 -- what is stored stays bytes
 pub last_below : (n a d : ℕ) (ws : List Store) → AllProper n ws → d < 256 → last_at a d ws < 256
 last_below n a d [] h l = l
-last_below n a d (w ∷ ws) h l = last_below n a _ ws h.1 (by (eqb w.address a))
+last_below n a d (w ∷ ws) h l = last_below n a (cond (eqb w.address a) w.value d) ws h.1 (by (eqb w.address a))
   where
     by : (y : Bool) → cond y w.value d < 256
     by true = h.0.byte

@@ -304,11 +304,11 @@ module _ (l : ℕ) where
   abbrev Pointing : ℕ → List ℕ → Model → List ℕ → Run → Type 0
   Pointing q t s m r = Sound s m → Points (part_of s.part) l t r
 
-  stops_point : (q n place : ℕ) (t : List ℕ) (s : Model) (m : List ℕ) → Stops t s m q n place → Pointing q t s m (stop_at n place t s m)
+  stops_point : (q : ℕ) (t : List ℕ) (s : Model) (m : List ℕ) (n place : ℕ) → Stops t s m q n place → Pointing q t s m (stop_at n place t s m)
   unfolding event_of
-  stops_point q n place t s m at_quota sound = points_here (part_of s.part) t 0 0 s m number_0 (λ h. absurd (omega arith)) refl
-  stops_point q n place t s m (at_end z) sound = points_here (part_of s.part) t 0 0 s m number_0 (λ h. absurd (omega arith)) refl
-  stops_point q n place t s m (at_refusal some not-0) sound =
+  stops_point q t s m n place at_quota sound = points_here (part_of s.part) t 0 0 s m number_0 (λ h. absurd (omega arith)) refl
+  stops_point q t s m n place (at_end z) sound = points_here (part_of s.part) t 0 0 s m number_0 (λ h. absurd (omega arith)) refl
+  stops_point q t s m n place (at_refusal some not-0) sound =
       points_here (part_of s.part) t _ _ s m (sound_judged l s m t sound).judged (λ h. omega (arith, some))
       (rw sound (read_placed (part_of s.part) t s m (read_of (part_of s.part) t) (found (part_of s.part) t)))
 

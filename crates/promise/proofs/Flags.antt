@@ -191,7 +191,7 @@ module _ (part pins bits : ℕ) (first : List ℕ) where
 
   loop_flags : (q : ℕ) (t : List ℕ) (s : Model) (m : List ℕ) → Flags q t s m (loop_of q t s m)
   loop_flags =
-      loop_induction Flags (λ q n place t s m e es a b. first_stopped _ n place t s m)
+      loop_induction Flags (λ q t s m n place e es a b. first_stopped _ n place t s m)
       (λ q t s m some none r ih es a b. more_flags q t some es s m none r ih a b)
 
   -- with 1 to 3 nothing is accepted

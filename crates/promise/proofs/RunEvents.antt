@@ -116,10 +116,10 @@ module _ (es : List (List ℕ)) (t : List ℕ) (s : Model) (m : List ℕ) where
 abbrev Ran : ℕ → List ℕ → Model → List ℕ → Run → Type 0
 Ran q t s m r = ByEvents (split q t) t s m r
 
-stops_ran : (q n place : ℕ) (t : List ℕ) (s : Model) (m : List ℕ) → Stops t s m q n place → Ran q t s m (stop_at n place t s m)
-stops_ran q n place t s m at_quota = ran_none [] t s m refl
-stops_ran q n place t s m (at_end z) = rw (eq-eqb _ _ z) (ran_none [] t s m refl)
-stops_ran q n place t s m (at_refusal {q = j} some not-0) =
+stops_ran : (q : ℕ) (t : List ℕ) (s : Model) (m : List ℕ) (n place : ℕ) → Stops t s m q n place → Ran q t s m (stop_at n place t s m)
+stops_ran q t s m n place at_quota = ran_none [] t s m refl
+stops_ran q t s m n place (at_end z) = rw (eq-eqb _ _ z) (ran_none [] t s m refl)
+stops_ran q t s m n place (at_refusal {q = j} some not-0) =
     rw (ne_eqb _ _ some) (ran_refused (take (taken t) t ∷ split j (drop (taken t) t)) t s m _ _ not-0 (rw (event_same s m t)))
 
 goes_on_ran : (q : ℕ) (t : List ℕ) (s : Model) (m : List ℕ) → (length t ≡ 0 → ⊥) → (event_of s m t).result.number ≡ 0 → (r : Run)

@@ -27,7 +27,7 @@ one_more_lem t r a f n l some k =
 loop_counted : (q : ℕ) (t : List ℕ) (s : Model) (m : List ℕ) → Counted (length t) (loop_of q t s m)
 loop_counted =
     loop_induction (λ q t s m r. Counted (length t) r)
-    (λ q n place t s m e. record { answered = refl; within = omega arith })
+    (λ q t s m n place e. record { answered = refl; within = omega arith })
     (λ q t s m some none r k. one_more_lem t r _ (event_of s m t).result.flag (taken t) (length_positive (get_or t 0 0)) some k)
 
 pub run_counted : (q : ℕ) (t : List ℕ) (s : Model) (m : List ℕ) → Counted (length t) (run_of q t s m)

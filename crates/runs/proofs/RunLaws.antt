@@ -71,13 +71,13 @@ pub data Stops (t : List ℕ) (s : Model) (m : List ℕ) : ℕ → ℕ → ℕ �
 
 -- what holds of a run that stops, and of a run with one accepted event more if it holds of the rest
 module _ (P : ℕ → List ℕ → Model → List ℕ → Run → Type 0)
-    (stops : (q n place : ℕ) (t : List ℕ) (s : Model) (m : List ℕ) → Stops t s m q n place → P q t s m (stop_at n place t s m))
+    (stops : (q : ℕ) (t : List ℕ) (s : Model) (m : List ℕ) (n place : ℕ) → Stops t s m q n place → P q t s m (stop_at n place t s m))
     (goes_on : (q : ℕ) (t : List ℕ) (s : Model) (m : List ℕ) → (length t ≡ 0 → ⊥) → (event_of s m t).result.number ≡ 0 → (r : Run)
     → P q (drop (taken t) t) (event_of s m t).result.model (event_of s m t).memory r
     → P (suc q) t s m (after (event_of s m t).result.answer (event_of s m t).result.flag (taken t) r)) where
   pub loop_induction : (q : ℕ) (t : List ℕ) (s : Model) (m : List ℕ) → P q t s m (loop_of q t s m)
   unfolding loop_of
-  loop_induction zero t s m = stops 0 0 0 t s m at_quota
+  loop_induction zero t s m = stops 0 t s m 0 0 at_quota
   loop_induction (suc q) t s m =
       by (eqb (length t) 0) (eqb (event_of s m t).result.number 0) refl refl
       (loop_induction q (drop (taken t) t) (event_of s m t).result.model (event_of s m t).memory)
@@ -87,7 +87,7 @@ module _ (P : ℕ → List ℕ → Model → List ℕ → Run → Type 0)
 
       by : (a b : Bool) → eqb (length t) 0 ≡ a → eqb (event_of s m t).result.number 0 ≡ b
           → P q (drop (taken t) t) (event_of s m t).result.model (event_of s m t).memory next → P (suc q) t s m (loop_of (suc q) t s m)
-      by true b x y k = let z = eqb-true _ _ x in rw (loop_over t s m (suc q) z) (stops (suc q) 0 0 t s m (at_end z))
+      by true b x y k = let z = eqb-true _ _ x in rw (loop_over t s m (suc q) z) (stops (suc q) t s m 0 0 (at_end z))
       by false true x y k =
           let some = eqb-false _ _ x in
           let none = eqb-true _ _ y in
@@ -95,7 +95,7 @@ module _ (P : ℕ → List ℕ → Model → List ℕ → Run → Type 0)
       by false false x y k =
           let some = eqb-false _ _ x in
           let not-0 = eqb-false _ _ y in
-          rw (loop_refused t s m q some not-0) (stops (suc q) _ _ t s m (at_refusal some not-0))
+          rw (loop_refused t s m q some not-0) (stops (suc q) t s m _ _ (at_refusal some not-0))
 
 -- what is read there, of the part of the state
 pub read_on : (p : Part) (s : Model) (t : List ℕ) (o : ℕ) {r : Read} → p ≡ part_of s.part → read_of p (take (length t - o) (drop o t)) ≡ r

@@ -30,7 +30,7 @@ rest k t r = loop_of k (drop r.offset t) r.model r.memory
 pub loop_sound : (q : ℕ) (t : List ℕ) (s : Model) (m : List ℕ) → Sound s m → Sound (loop_of q t s m).model (loop_of q t s m).memory
 loop_sound =
     loop_induction (λ q t s m r. Sound s m → Sound r.model r.memory)
-    (λ q n place t s m e h. h)
+    (λ q t s m n place e h. h)
     (λ q t s m some none r k h. k (event_sound s m t h))
 
 -- ---- the rule
@@ -48,10 +48,10 @@ module _ (k : ℕ) where
   abbrev First : ℕ → List ℕ → Model → List ℕ → Run → Type 0
   First j t s m r = r.number ≡ 0 → loop_of (j + k) t s m ≡ joined_runs (length t) r (rest k t r)
 
-  rule_stops : (j n place : ℕ) (t : List ℕ) (s : Model) (m : List ℕ) → Stops t s m j n place → First j t s m (stop_at n place t s m)
-  rule_stops j n place t s m at_quota h = rw zero-add (sym (joined_start t s m (loop_of k t s m)))
-  rule_stops j n place t s m (at_end {q} z) h = rw (loop_over t s m (suc q + k) z) (sym (joined_start t s m _ ∙ loop_over t s m k z))
-  rule_stops j n place t s m (at_refusal some not-0) h = absurd (not-0 h)
+  rule_stops : (j : ℕ) (t : List ℕ) (s : Model) (m : List ℕ) (n place : ℕ) → Stops t s m j n place → First j t s m (stop_at n place t s m)
+  rule_stops j t s m n place at_quota h = rw zero-add (sym (joined_start t s m (loop_of k t s m)))
+  rule_stops j t s m n place (at_end {q} z) h = rw (loop_over t s m (suc q + k) z) (sym (joined_start t s m _ ∙ loop_over t s m k z))
+  rule_stops j t s m n place (at_refusal some not-0) h = absurd (not-0 h)
 
   rule_goes_on : (j : ℕ) (t : List ℕ) (s : Model) (m : List ℕ) → (length t ≡ 0 → ⊥) → (event_of s m t).result.number ≡ 0 → (r : Run)
       → First j (drop (taken t) t) (event_of s m t).result.model (event_of s m t).memory r

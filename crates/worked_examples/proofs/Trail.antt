@@ -339,11 +339,11 @@ after_by_lem a f n m (Byte i v) r = refl
 abbrev By : ℕ → List ℕ → Model → List ℕ → Run → Type 0
 By quota t s m r = (size : ℕ) (f : ℕ → ℕ) → length m ≡ size → Reads m f → r ≡ run_from m (loop_by quota size t s f)
 
-stops_by : (quota n place : ℕ) (t : List ℕ) (s : Model) (m : List ℕ) → Stops t s m quota n place → By quota t s m (stop_at n place t s m)
+stops_by : (quota : ℕ) (t : List ℕ) (s : Model) (m : List ℕ) (n place : ℕ) → Stops t s m quota n place → By quota t s m (stop_at n place t s m)
 unfolding loop_by
-stops_by quota n place t s m at_quota size f e h = refl
-stops_by quota n place t s m (at_end z) size f e h = rw (eq-eqb _ _ z)
-stops_by quota n place t s m (at_refusal some not-0) size f e h =
+stops_by quota t s m n place at_quota size f e h = refl
+stops_by quota t s m n place (at_end z) size f e h = rw (eq-eqb _ _ z)
+stops_by quota t s m n place (at_refusal some not-0) size f e h =
     let v = event_by_lem m f h size s t e in
     rw (v, ne_eqb _ _ some, ne_eqb _ _ (rw v at not-0))
 
@@ -358,9 +358,9 @@ goes_on_by quota t s m some none r k size f e h =
     rw (v, ne_eqb _ _ some, eq-eqb _ _ (rw v at none))
     (ap (after d.result.answer d.result.flag (taken t)) next ∙ after_by_lem d.result.answer d.result.flag (taken t) m d.write _)
 
-loop_by : (quota size : ℕ) (t : List ℕ) (s : Model) (m : List ℕ) (f : ℕ → ℕ) → length m ≡ size → Reads m f
+loop_by_lem : (quota size : ℕ) (t : List ℕ) (s : Model) (m : List ℕ) (f : ℕ → ℕ) → length m ≡ size → Reads m f
     → loop_of quota t s m ≡ run_from m (loop_by quota size t s f)
-loop_by quota size t s m f e h = loop_induction By stops_by goes_on_by quota t s m size f e h
+loop_by_lem quota size t s m f e h = loop_induction By stops_by goes_on_by quota t s m size f e h
 
 pub run_by_lem : (quota size : ℕ) (t : List ℕ) (s : Model) (m : List ℕ) (f : ℕ → ℕ) → length m ≡ size → Reads m f
     → run_of quota t s m ≡ run_from m (run_by quota size t s f)
@@ -368,5 +368,5 @@ unfolding run_of
 run_by_lem quota size t s m f e h = rw e (by (check_of s size))
   where
     by : (v : Verdict) → Runs.run_on_verdict v quota t s m ≡ run_from m (run_verdict_by v quota size t s f)
-    by Passed = loop_by quota size t s m f e h
+    by Passed = loop_by_lem quota size t s m f e h
     by (Failed r) = refl

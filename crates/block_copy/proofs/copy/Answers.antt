@@ -13,9 +13,9 @@ returns c =
     let old = c.args.dst.now in
     let blocks = c.copy_blocks-at in
     let at = blocks.result in
-    let dst = blocks.new.1.0 in
+    let dst = blocks.new.dst in
     let longer : length src ≤ length dst =
     omega (arith, ap length blocks.ensures.1 ∙ length_in src old at blocks.ensures.0 c.requires, c.requires) in
-    part_put src dst at (length src - at) (omega (arith, blocks.ensures.0)) longer _ _ refl c.copy.ensures.1
+    part_put src dst at (length src - at) (omega (arith, blocks.ensures.0)) longer _ _ refl c.front.ensures
     ∙ parts_on src old at (length src - at) (omega (arith, blocks.ensures.0)) dst blocks.ensures.1
     ∙ part_last src old at blocks.ensures.0
