@@ -3,7 +3,9 @@
 ghost use Rattle.std.specs.Prelude.{◌≡◌};
 ghost use Rattle.report.specs.Report.{memory_after_run};
 
-use libc::{STDIN_FILENO, STDOUT_FILENO};
+// the descriptors of standard input and output
+const STDIN_FILENO: i32 = 0;
+const STDOUT_FILENO: i32 = 1;
 
 // Prints the answers of the accepted events, then number, count and offset on a line of their own.
 pub fn serve(part: u32, memory: &mut [u8]) {

@@ -1,7 +1,7 @@
 -- The saved bits likewise: one event more leaves the ledger's bits as they were, or takes all three from the first data byte of a
 -- WRSR that it ends, or is a power off that zeroes them. From the ledger's definition. Assumes nothing.
 use Prim.Native.Nat.{ℕ}
-use mathlib.Core.Path.{◌≡◌, refl}
+use mathlib.Core.Path.{◌≡◌, refl, ap}
 use mathlib.Core.Bool.{Bool, true, false, cond, not, ◌&&◌}
 use mathlib.Core.List.{List, [], ◌∷◌, ◌++◌}
 use lib.Dec.{eqb}
@@ -22,7 +22,7 @@ use Rattle.chip.specs.declared.model.Model.{Model}
 use Rattle.runs.specs.Event.{event_of}
 use Rattle.ledger.specs.Bits as Bits
 use Rattle.ledger.specs.History.{Entry}
-use Rattle.ledger.specs.SpiLedger.{unended, ended, Item, power_on, power_off, selection, with_bit, closed, items_on_edge, last_sample, items, Reading, partial, command, reading, asleep, without_ignored, enabled, SavedBits, bits_in, status_write, bits_after, bits}
+use Rattle.ledger.specs.SpiLedger.{unended, ended, Item, power_on, power_off, selection, with_bit, closed, items_on_edge, last_sample, items, Reading, partial, command, reading, asleep, without_ignored, enabled, SavedBits, zero_bits, bits_in, status_write, bits_after, bits}
 use Rattle.promise.specs.Lists.{Observed, observed, model_after, memory_after}
 use Rattle.promise.specs.Fed.{with_event}
 use Rattle.promise.specs.Ledger.{saved_in, ledger_bits}
@@ -102,7 +102,7 @@ module _ (p : Part) (made : SavedBits) where
   on_edge Quiet wp is = old refl
 
   on_off : (y : Bool) (is : List Item) → p.saved ≡ y → Steps is (power_off ∷ is)
-  on_off true is q = old (rw q)
+  on_off true is q = old (ap (λ (y : Bool). cond y (bits p made (without_ignored p is)) zero_bits) q)
   on_off false is q = zeroed is refl q (rw q)
 
   on_event : (e : Event) (a : ℕ) (h : List Entry) → Steps (items h) (items (record { event = e; answer = a } ∷ h))

@@ -244,6 +244,14 @@ module _ (p : Part) (t : List ℕ) where
     read_judged s m (Refused R.ExpectedRange place) (bad_expected r b) = refused_judged 11 (omega arith) (number_11 r b)
     read_judged s m (Refused R.Truncated place) (short b) = refused_judged 5 (omega arith) (number_5 b)
     read_judged s m (Refused R.UnknownKind place) (unknown k b) = refused_judged 4 (omega arith) (number_4 k b)
+    read_judged s m (Refused R.ModelRange place) h = elim h [ ]
+    read_judged s m (Refused R.StateRange place) h = elim h [ ]
+    read_judged s m (Refused R.MemoryLength place) h = elim h [ ]
+    read_judged s m (Refused R.Unpowered place) h = elim h [ ]
+    read_judged s m (Refused R.Powered place) h = elim h [ ]
+    read_judged s m (Refused R.Unexpected place) h = elim h [ ]
+    read_judged s m (Refused R.NotDeselected place) h = elim h [ ]
+    read_judged s m (Refused R.BufferLength place) h = elim h [ ]
 
   module _ (s : Model) (m : List ℕ) where
     -- where the reader points is where the number's field begins
@@ -259,6 +267,14 @@ module _ (p : Part) (t : List ℕ) where
     read_placed (Refused R.ExpectedRange place) (bad_expected r b) = refl
     read_placed (Refused R.Truncated place) (short b) = refl
     read_placed (Refused R.UnknownKind place) (unknown k b) = refl
+    read_placed (Refused R.ModelRange place) h = elim h [ ]
+    read_placed (Refused R.StateRange place) h = elim h [ ]
+    read_placed (Refused R.MemoryLength place) h = elim h [ ]
+    read_placed (Refused R.Unpowered place) h = elim h [ ]
+    read_placed (Refused R.Powered place) h = elim h [ ]
+    read_placed (Refused R.Unexpected place) h = elim h [ ]
+    read_placed (Refused R.NotDeselected place) h = elim h [ ]
+    read_placed (Refused R.BufferLength place) h = elim h [ ]
 
 -- ---- an event
 

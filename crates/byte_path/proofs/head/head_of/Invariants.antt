@@ -1,0 +1,20 @@
+-- `head_of` meets its contract: the head of what is left, after the bytes taken, is the head of all. The measure is what is left.
+-- Assumes nothing.
+use Prim.Native.Nat.{ℕ, ◌-◌, ◌<◌, ◌≤◌}
+use mathlib.Core.Path.{◌≡◌, refl, sym, ap, ◌∙◌}
+use mathlib.Core.List.{List, ◌++◌}
+use native.Mathlib.Numerals.{add-one}
+use native.Mathlib.Omega.{arith}
+use lib.ListN.{length, get_or, drop, replicate, length-set}
+use Rattle.byte_path.specs.declared.head.Head.{Head}
+use Rattle.byte_path.specs.Head.{ahead, head_from, Bordered}
+use Rattle.byte_path.proofs.HeadLaws.{bordered_next, head_start, head_on, head_over, head_end, quiet_on}
+use Rattle.byte_path.proofs.head.head_of.Given as goal
+
+abbrev pub invariant-loop-at : goal.invariant-loop-at
+invariant-loop-at l =
+    (l.at ≤ length l.input) × Bordered l.part l.phase × (ahead l.at (head_from l.part l.phase (drop l.at l.input)) ≡ head_from l.part l.initial.phase l.input)
+    × (length l.output ≡ length l.initial.output) × (l.output ≡ replicate l.at 255 ++ drop l.at l.initial.output)
+
+abbrev pub decreases-loop-at : goal.decreases-loop-at
+decreases-loop-at l = length l.input - l.at
