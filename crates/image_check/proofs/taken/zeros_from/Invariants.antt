@@ -1,0 +1,18 @@
+-- `zeros_from` meets its contract. The loop's invariant: the bytes from here on are all 0 exactly if those from the start on are.
+-- Assumes nothing.
+use Prim.Native.Nat.{◌-◌, ◌≤◌}
+use mathlib.Core.Path.{◌≡◌, refl}
+use native.Mathlib.Numerals.{add-one}
+use native.Mathlib.Omega.{arith}
+use borrow.Author.Rules.{rules}
+use borrow.Author.Tests.{eq-eqb, ne_eqb}
+use lib.ListN.{length, drop}
+use lib.Seq.{drop-cons, drop-length}
+use Rattle.image.specs.Taken.{zeros}
+use Rattle.image_check.proofs.taken.zeros_from.Given as goal
+
+abbrev pub invariant-loop-at : goal.invariant-loop-at
+invariant-loop-at l = (l.at ≤ length l.initial.bytes) × (zeros (drop l.at l.initial.bytes) ≡ zeros (drop l.start l.initial.bytes))
+
+abbrev pub decreases-loop-at : goal.decreases-loop-at
+decreases-loop-at l = length l.initial.bytes - l.at

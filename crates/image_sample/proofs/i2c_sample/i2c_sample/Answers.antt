@@ -1,0 +1,33 @@
+-- `i2c_sample` meets its contract, by the edge between the samples. Assumes nothing.
+use Rattle.image_sample.proofs.FieldLaws.{left_undone}
+use Rattle.image_sample.proofs.I2cLaws.{fall_ready, rise_ready, start, stop, rise, fall, quiet}
+use borrow.Author.Rules.{rules}
+use Rattle.image_sample.proofs.i2c_sample.i2c_sample.Goals as goal
+
+pub rise-requires : goal.rise-requires
+rise-requires c =
+    rise_ready _ _ _ c.args.memory.now c.requires c.if-phase-lt8.true
+
+pub fall-requires : goal.fall-requires
+fall-requires c =
+    fall_ready _ _ _ c.args.memory.now c.requires
+
+pub returns-in-Start : goal.returns-in-Start
+returns-in-Start c =
+    start _ _ _ _ c.requires c.levels_of-before.ensures c.levels_of-levels.ensures c.phase_in.ensures c.flag_of-flag.ensures c.edge_of.ensures c.in-Start.is c.start.ensures c.done.ensures
+
+pub returns-in-Stop : goal.returns-in-Stop
+returns-in-Stop c =
+    stop _ _ _ _ c.requires c.levels_of-before.ensures c.levels_of-levels.ensures c.phase_in.ensures c.flag_of-flag.ensures c.edge_of.ensures c.in-Stop.is c.stop.ensures c.done-in-Stop.ensures
+
+pub returns-then-phase-lt8 : goal.returns-then-phase-lt8
+returns-then-phase-lt8 c =
+    rise _ _ _ _ c.requires c.levels_of-before.ensures c.levels_of-levels.ensures c.phase_in.ensures c.flag_of-flag.ensures c.edge_of.ensures c.in-Rise.is c.if-phase-lt8.true c.rise.ensures c.done-then-phase-lt8.ensures
+
+pub returns-in-Fall : goal.returns-in-Fall
+returns-in-Fall c =
+    fall _ _ _ _ c.requires c.levels_of-before.ensures c.levels_of-levels.ensures c.phase_in.ensures c.flag_of-flag.ensures c.edge_of.ensures c.in-Fall.is c.fall.ensures c.done-in-Fall.ensures
+
+pub returns-in-Quiet : goal.returns-in-Quiet
+returns-in-Quiet c =
+    quiet _ _ _ _ c.requires c.levels_of-before.ensures c.levels_of-levels.ensures c.phase_in.ensures c.flag_of-flag.ensures c.edge_of.ensures c.in-Quiet.is c.moved.ensures c.done-in-Quiet.ensures
