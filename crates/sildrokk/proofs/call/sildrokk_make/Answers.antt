@@ -17,12 +17,12 @@ returns-then-made-ne0-clause-number c =
 pub returns-then-state-ne32-clause-state : goal.returns-then-state-ne32-clause-state
 returns-then-state-ne32-clause-state c =
     let a = c.args in
-    rw c.number.ensures ((making_short a.part a.pins a.bits a.state.now _ c.make-made.ensures c.if-made-ne0.false c.if-state-ne32.true)).1
+    (making_short a.part a.pins a.bits a.state.now _ c.make-made.ensures c.if-made-ne0.false c.if-state-ne32.true).1
 
 pub returns-then-state-ne32-clause-number : goal.returns-then-state-ne32-clause-number
 returns-then-state-ne32-clause-number c =
     let a = c.args in
-    rw c.number.ensures ((making_short a.part a.pins a.bits a.state.now _ c.make-made.ensures c.if-made-ne0.false c.if-state-ne32.true)).0
+    rw c.number.ensures (making_short a.part a.pins a.bits a.state.now _ c.make-made.ensures c.if-made-ne0.false c.if-state-ne32.true).0
 
 pub put_image-requires : goal.put_image-requires
 put_image-requires c =
@@ -32,9 +32,9 @@ put_image-requires c =
 pub returns-clause-number : goal.returns-clause-number
 returns-clause-number c =
     let a = c.args in
-    rw c.put_image.ensures ((making_done a.part a.pins a.bits a.state.now _ c.make-made.ensures c.if-made-ne0.false c.if-state-ne32.false)).0
+    (making_done a.part a.pins a.bits a.state.now _ c.make-made.ensures c.if-made-ne0.false c.if-state-ne32.false).0
 
 pub returns-clause-state : goal.returns-clause-state
 returns-clause-state c =
     let a = c.args in
-    rw c.put_image.ensures ((making_done a.part a.pins a.bits a.state.now _ c.make-made.ensures c.if-made-ne0.false c.if-state-ne32.false)).1
+    rw c.put_image.ensures (making_done a.part a.pins a.bits a.state.now _ c.make-made.ensures c.if-made-ne0.false c.if-state-ne32.false).1
