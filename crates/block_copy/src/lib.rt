@@ -1,5 +1,6 @@
 // A copy of many bytes, block by block.
 #![tactic(auto)]
+
 ghost use Rattle.std.specs.Prelude.{◌≡◌, ◌+◌, ◌≤◌, ◌++◌, length, take, drop};
 
 // All of src to the front of dst at once; what is behind it stays.

@@ -1,6 +1,7 @@
 // Bytes written to a memory from an address up, and on from 0 after the top, those at a protected start or above passed over. The
 // memory is written in stretches that reach at most to the top, each by one copy: no byte's address is looked at.
 #![tactic(auto)]
+
 ghost use Rattle.std.specs.Prelude.{◌≡◌, ◌+◌, ◌-◌, ◌<◌, ◌≤◌, min, length, take, drop};
 ghost use Rattle.rolled_write.specs.Written.{written_from};
 

@@ -1,9 +1,8 @@
 -- `copy` meets its contract: the whole blocks, and behind them the last part. Assumes nothing.
 use Prim.Native.Nat.{◌-◌, ◌≤◌}
-use mathlib.Core.Path.{◌≡◌, refl, ap, ◌∙◌}
+use mathlib.Core.Path.{refl, ap, ◌∙◌}
 use native.Mathlib.Omega.{arith}
 use lib.ListN.{length}
-use borrow.Author.Rules.{rules}
 use Rattle.block_copy.proofs.CopyLaws.{part_put, parts_on, part_last, length_in}
 use Rattle.block_copy.proofs.copy.Goals as goal
 

@@ -1,10 +1,8 @@
 -- `copy_blocks` meets its contract. The loop's invariant: all bytes up to the place are in. Assumes nothing.
-use Prim.Native.Nat.{◌+◌, ◌-◌, ◌≤◌}
-use mathlib.Core.Path.{◌≡◌, refl, ap, ◌∙◌}
-use mathlib.Core.List.{◌++◌}
+use Prim.Native.Nat.{◌+◌}
+use mathlib.Core.Path.{ap, ◌∙◌}
 use native.Mathlib.Omega.{arith}
-use lib.ListN.{length, take, drop}
-use borrow.Author.Rules.{rules}
+use lib.ListN.{length}
 use Rattle.block_copy.proofs.CopyLaws.{parts_on, length_in}
 use Rattle.block_copy.proofs.copy_blocks.Goals as goal
 

@@ -1,11 +1,8 @@
 -- `copy_blocks` meets its contract. The loop's invariant: all bytes up to the place are in. Assumes nothing.
-use Prim.Native.Nat.{◌+◌, ◌-◌, ◌≤◌}
-use mathlib.Core.Path.{◌≡◌, refl, ap, ◌∙◌}
+use Prim.Native.Nat.{◌-◌, ◌≤◌}
+use mathlib.Core.Path.{◌≡◌}
 use mathlib.Core.List.{◌++◌}
-use native.Mathlib.Omega.{arith}
 use lib.ListN.{length, take, drop}
-use borrow.Author.Rules.{rules}
-use Rattle.block_copy.proofs.CopyLaws.{parts_on, length_in}
 use Rattle.block_copy.proofs.copy_blocks.Given as goal
 
 abbrev pub invariant-loop-at : goal.invariant-loop-at

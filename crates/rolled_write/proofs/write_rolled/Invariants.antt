@@ -1,13 +1,9 @@
 -- `write_rolled` meets its contract. The loop's invariant: what is left of the input, written from here on, completes the whole.
 -- The measure is what is left of the input. Assumes nothing.
 use Prim.Native.Nat.{◌-◌, ◌<◌, ◌≤◌}
-use mathlib.Core.Path.{◌≡◌, refl, sym, ◌∙◌}
-use native.Mathlib.Omega.{arith}
-use borrow.Author.Rules.{rules}
-use mathlib.Core.List.{[]}
-use lib.ListN.{length, drop, drop_of_length-le}
+use mathlib.Core.Path.{◌≡◌}
+use lib.ListN.{length, drop}
 use Rattle.rolled_write.specs.Written.{written_from}
-use Rattle.rolled_write.proofs.WrittenLaws.{written_on}
 use Rattle.rolled_write.proofs.write_rolled.Given as goal
 
 abbrev pub invariant-loop-left : goal.invariant-loop-left

@@ -1,6 +1,5 @@
 -- `write_stretch` meets its contract: what the copy puts in front of the memory from the address on is what is written below start.
 -- Assumes nothing.
-use borrow.Author.Rules.{rules}
 use Rattle.rolled_write.proofs.WrittenLaws.{stretch_copied}
 use Rattle.rolled_write.proofs.write_stretch.Goals as goal
 

@@ -1,11 +1,9 @@
 -- `fill` meets its contract. The loop's invariant: what is before the place, with the value up to the end, is the whole.
 -- Assumes nothing.
-use Prim.Native.Nat.{◌-◌, ◌≤◌}
-use mathlib.Core.Path.{◌≡◌, refl, sym, ◌∙◌}
-use mathlib.Core.List.{◌++◌}
+use mathlib.Core.Path.{◌∙◌}
 use borrow.Author.Rules.{rules}
-use lib.ListN.{length, take, replicate, length-set}
-use Rattle.rolled_read.proofs.FillLaws.{fill_on, fill_over}
+use lib.ListN.{length-set}
+use Rattle.rolled_read.proofs.FillLaws.{fill_on}
 use Rattle.rolled_read.proofs.fill.fill.Goals as goal
 
 {- INVARIANT

@@ -1,12 +1,9 @@
 -- `read_rolled` meets its contract. The loop's invariant: what is before the place, with what is still to be read, is the whole.
 -- Assumes nothing.
-use Prim.Native.Nat.{◌-◌, ◌<◌, ◌≤◌}
-use mathlib.Core.Path.{◌≡◌, refl, sym, ◌∙◌}
-use mathlib.Core.List.{◌++◌}
+use mathlib.Core.Path.{◌∙◌}
 use borrow.Author.Rules.{rules}
-use lib.ListN.{length, take}
-use Rattle.rolled_read.specs.Rolled.{rolled_from}
-use Rattle.rolled_read.proofs.ReadLaws.{read_on, read_over}
+use lib.ListN.{length}
+use Rattle.rolled_read.proofs.ReadLaws.{read_on}
 use Rattle.rolled_read.proofs.read.read_rolled.Goals as goal
 
 pub loop-at-preserved : goal.loop-at-preserved

@@ -1,12 +1,10 @@
 -- `read_rolled` meets its contract. The loop's invariant: what is before the place, with what is still to be read, is the whole.
 -- Assumes nothing.
 use Prim.Native.Nat.{◌-◌, ◌<◌, ◌≤◌}
-use mathlib.Core.Path.{◌≡◌, refl, sym, ◌∙◌}
+use mathlib.Core.Path.{◌≡◌}
 use mathlib.Core.List.{◌++◌}
-use borrow.Author.Rules.{rules}
 use lib.ListN.{length, take}
 use Rattle.rolled_read.specs.Rolled.{rolled_from}
-use Rattle.rolled_read.proofs.ReadLaws.{read_on, read_over}
 use Rattle.rolled_read.proofs.read.read_rolled.Given as goal
 
 abbrev pub invariant-loop-at : goal.invariant-loop-at

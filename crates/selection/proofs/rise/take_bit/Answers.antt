@@ -1,8 +1,5 @@
 -- `take_bit` meets its contract: the bits of an unfinished field fit, and the last one fills it. Assumes nothing.
-use Rattle.selection.proofs.RangeLaws.{width_narrow, taken_small, last_within}
-use borrow.Author.Tests.{le-ltb, lt-ltb}
-use native.Mathlib.Omega.{arith}
-use borrow.Author.Rules.{rules}
+use Rattle.selection.proofs.RangeLaws.{last_within}
 use Rattle.selection.proofs.rise.take_bit.Goals as goal
 
 pub phase_after_field-requires : goal.phase_after_field-requires

@@ -1,7 +1,6 @@
 -- `read_event` meets its contract, by the tests of kind and length in the order of the definition. Assumes nothing.
 use Rattle.trace.specs.Read.{read_of}
-use borrow.Author.Tests.{eq-eqb, le-ltb, lt-ltb, ne_eqb, not-false, not-true}
-use borrow.Author.Rules.{rules}
+use borrow.Author.Tests.{eq-eqb, le-ltb, lt-ltb, ne_eqb}
 use Rattle.trace.proofs.read.read_event.Goals as goal
 
 pub returns-then-bytes-eq0 : goal.returns-then-bytes-eq0

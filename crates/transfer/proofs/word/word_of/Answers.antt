@@ -1,7 +1,6 @@
 -- `word_of` meets its contract, by its tests. Assumes nothing.
 use Rattle.transfer.specs.Word.{word_of}
 use borrow.Author.Tests.{eq-eqb, ne_eqb}
-use borrow.Author.Rules.{rules}
 use Rattle.transfer.proofs.word.word_of.Goals as goal
 
 pub returns-then-word-eq1 : goal.returns-then-word-eq1
