@@ -5,10 +5,9 @@ use mathlib.Core.Path.{◌≡◌, refl, ap, ap₂, ◌∙◌}
 use mathlib.Core.Bool.{Bool, true, false, cond, ◌&&◌}
 use mathlib.Core.List.{List, [], ◌∷◌}
 use native.Mathlib.Nat.{two-pow-succ}
-use native.Mathlib.Numerals.{add-one}
 use native.Mathlib.Omega.{arith}
-use lib.Dec.{eqb, ltb}
-use lib.ListN.{get_or, set}
+use lib.Dec.{ltb}
+use lib.ListN.{set}
 use borrow.Author.Tests.{ltb-true}
 use Rattle.parts.specs.declared.answer.Answer.TheVariants.{HighZ}
 use Rattle.parts.specs.declared.part.Part.{Part}
@@ -16,7 +15,6 @@ use Rattle.parts.specs.declared.status.Status.{Status}
 use Rattle.parts.specs.Numbers.{answer_number}
 use Rattle.parts.specs.Status.{protected_start}
 use Rattle.parts.specs.Table.{part_of}
-use Rattle.serial.specs.declared.write.Write.{Write}
 use Rattle.serial.specs.declared.write.Write.TheVariants.{Nothing, Byte}
 use Rattle.serial.specs.Bits.{bit_at}
 use Rattle.serial.specs.Write.{applied}

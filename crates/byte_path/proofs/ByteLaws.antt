@@ -1,13 +1,13 @@
 -- Eight bits at a byte's border are one byte step: what they make of the phase, store and bring back. For every part, by the phases, over
 -- its size and address width. Assumes nothing.
-use Prim.Native.Nat.{ℕ, zero, suc, ◌+◌, ◌-◌, ◌*◌, ◌/◌, ◌%◌, ◌^◌, ◌<◌, ◌≤◌}
-use mathlib.Core.Path.{◌≡◌, refl, sym, ap, ◌∙◌}
+use Prim.Native.Nat.{ℕ, zero, suc, ◌+◌, ◌*◌, ◌/◌, ◌%◌, ◌^◌, ◌<◌, ◌≤◌}
+use mathlib.Core.Path.{◌≡◌, refl, ap, ◌∙◌}
 use mathlib.Core.Bool.{Bool, true, false, cond}
 use mathlib.Core.List.{List, [], ◌∷◌}
 use native.Mathlib.Omega.{arith}
 use lib.Dec.{eqb, ltb}
 use lib.ListN.{length, get_or, replicate}
-use borrow.Author.Tests.{lt-ltb, le-ltb}
+use borrow.Author.Tests.{lt-ltb}
 use Rattle.parts.specs.declared.answer.Answer.TheVariants.{HighZ}
 use Rattle.parts.specs.declared.part.Part.{Part}
 use Rattle.parts.specs.declared.status.Status.{Status}
@@ -23,11 +23,10 @@ use Rattle.selection.specs.declared.phase.Phase.{Phase}
 use Rattle.selection.specs.declared.phase.Phase.TheVariants.{Rest, Ignoring, Taking, Showing, Waiting, Pending}
 use Rattle.selection.specs.declared.phase.Source.{Source}
 use Rattle.selection.specs.declared.phase.Source.TheVariants.{Memory, Register, Identity}
-use Rattle.selection.specs.Phase.{width, phase_after_field, next_source}
-use Rattle.spi.specs.Show.{shown_bit}
+use Rattle.selection.specs.Phase.{width, phase_after_field}
 use Rattle.serial.specs.declared.write.Write.TheVariants.{Nothing}
-use Rattle.spi.specs.Store.{permitted, field_write}
-use Rattle.byte_path.specs.PinPath.{bits_of, back_bit, back_from, driven_in, Back, back_of}
+use Rattle.spi.specs.Store.{field_write}
+use Rattle.byte_path.specs.PinPath.{bits_of, back_bit, back_from, driven_in, back_of}
 use Rattle.byte_path.specs.ByBytes.{AtBorder, phase_after_byte, field_stores, byte_write, undriven, source_back, byte_back}
 use Rattle.byte_path.proofs.PinLaws.{phase_bits, memory_bits, answer_bits}
 

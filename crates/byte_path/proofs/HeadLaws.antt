@@ -2,7 +2,7 @@
 -- after them is again one at a byte's border. Assumes nothing.
 use Prim.Native.Nat.{ℕ, zero, suc, ◌+◌, ◌*◌, ◌%◌, ◌^◌, ◌<◌, ◌≤◌}
 use mathlib.Core.Path.{◌≡◌, refl, sym, ap, ◌∙◌}
-use mathlib.Core.Bool.{Bool, true, false, cond, false≢true}
+use mathlib.Core.Bool.{Bool, true, false, cond}
 use mathlib.Core.List.{List, [], ◌∷◌, ◌++◌}
 use native.Mathlib.Nat.{pow-le-pow_right, zero-add, add-zero}
 use native.Mathlib.Numerals.{add-one}
@@ -12,7 +12,6 @@ use lib.ListN.{length, get_or, set, drop, replicate}
 use lib.Seq.{drop-cons, drop-nil}
 use borrow.Author.Tests.{ltb-true}
 use Rattle.parts.specs.declared.part.Part.{Part}
-use Rattle.parts.specs.Table.{Fit}
 use Rattle.serial.proofs.AddressLaws.{next_within}
 use Rattle.serial.proofs.BitLaws.{small}
 use Rattle.selection.specs.declared.phase.Field.{Field}
@@ -20,10 +19,10 @@ use Rattle.selection.specs.declared.phase.Field.TheVariants.{Opcode, ReadAddress
 use Rattle.selection.specs.declared.phase.Phase.{Phase}
 use Rattle.selection.specs.declared.phase.Phase.TheVariants.{Rest, Ignoring, Taking, Showing, Waiting, Pending}
 use Rattle.selection.specs.Phase.{width, phase_after_field}
-use Rattle.selection.specs.Ranges.{FieldIn, TakingIn, PhaseIn}
+use Rattle.selection.specs.Ranges.{PhaseIn}
 use Rattle.spi.proofs.Keeps.{after_field_in, next_source_in}
 use Rattle.byte_path.specs.declared.head.Head.{Head}
-use Rattle.byte_path.specs.ByBytes.{AtBorder, phase_after_byte}
+use Rattle.byte_path.specs.ByBytes.{phase_after_byte}
 use Rattle.byte_path.specs.Head.{is_head, ahead, head_from, Bordered}
 use Rattle.byte_path.proofs.ByBytes.{eight_more, byte_border}
 

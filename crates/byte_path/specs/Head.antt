@@ -1,5 +1,5 @@
 -- The bytes of a selection before its data: opcode, address, the dummy byte of FSTRD, the data byte of WRSR.
-use Rattle.std.specs.Prelude.{ℕ, suc, ◌+◌, ◌%◌, ◌≡◌, Bool, true, false, cond, List, [], ◌∷◌}
+use Rattle.std.specs.Prelude.{ℕ, ◌+◌, ◌%◌, ◌≡◌, Bool, true, false, cond, List, [], ◌∷◌}
 use Rattle.parts.specs.declared.part.Part.{Part}
 use Rattle.parts.specs.Table.{Fit}
 use Rattle.selection.specs.declared.phase.Field.{Field}

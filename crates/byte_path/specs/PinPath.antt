@@ -1,6 +1,6 @@
 -- One selection as bytes, on the pins: CS# falls with SCK low and SI 0; each bit, the most significant of a byte first, is a sample with
 -- SCK high and SI at the bit, and one with SCK low and SI kept; CS# rises with SCK low and SI kept. HOLD# is 1 and WP# stays.
-use Rattle.std.specs.Prelude.{ℕ, zero, suc, ◌+◌, ◌*◌, Bool, true, false, cond, not, ◌&&◌, List, [], ◌∷◌, eqb, length}
+use Rattle.std.specs.Prelude.{ℕ, suc, ◌+◌, ◌*◌, Bool, true, false, cond, List, [], ◌∷◌, eqb}
 use Rattle.parts.specs.Status.{bit}
 use Rattle.serial.specs.Bits.{bit_at}
 use Rattle.trace.specs.declared.event.Event.TheVariants.{Sample}

@@ -1,9 +1,9 @@
 -- The bytes that come back, by their number: which bytes they are, how many are driven and which is the first. By induction on the number.
 -- Assumes nothing.
 use Prim.Native.Nat.{ℕ, zero, suc, ◌+◌, ◌-◌, ◌<◌, ◌≤◌, min}
-use mathlib.Core.Path.{◌≡◌, refl, sym, ap, ap₂, ◌∙◌}
+use mathlib.Core.Path.{◌≡◌, refl, sym, ap, ◌∙◌}
 use mathlib.Core.Bool.{Bool, true, false, cond}
-use mathlib.Core.List.{List, [], ◌∷◌, ◌++◌, append-nil}
+use mathlib.Core.List.{List, ◌∷◌, ◌++◌, append-nil}
 use native.Mathlib.Numerals.{add-one}
 use native.Mathlib.Omega.{arith}
 use lib.Dec.{ltb, eqb}
@@ -15,14 +15,10 @@ use Rattle.parts.specs.declared.status.Status.{Status}
 use Rattle.parts.specs.Status.{status_byte}
 use Rattle.serial.specs.Address.{next_address}
 use Rattle.rolled_read.specs.Rolled.{rolled_from}
-use Rattle.selection.specs.declared.phase.Phase.{Phase}
-use Rattle.selection.specs.declared.phase.Phase.TheVariants.{Rest, Ignoring, Taking, Showing, Waiting}
-use Rattle.selection.specs.declared.phase.Source.{Source}
 use Rattle.selection.specs.declared.phase.Source.TheVariants.{Memory, Register, Identity}
-use Rattle.selection.specs.Phase.{next_source}
 use Rattle.byte_path.specs.PinPath.{Back, bytes_of, first_driven, driven_count}
-use Rattle.byte_path.specs.ByBytes.{undriven, source_back}
-use Rattle.byte_rest.specs.Rest.{shown_from, rest_back, identity_from}
+use Rattle.byte_path.specs.ByBytes.{undriven}
+use Rattle.byte_rest.specs.Rest.{shown_from, identity_from}
 
 -- ---- after n bytes that are not driven
 

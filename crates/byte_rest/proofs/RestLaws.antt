@@ -1,22 +1,21 @@
 -- The bytes after the head by their number: what they bring back, what they store, and what CS# rising then does, is that of the byte
 -- steps. By induction on the bytes. Assumes nothing.
-use Prim.Native.Nat.{ℕ, zero, suc, ◌+◌, ◌-◌, ◌*◌, ◌^◌, ◌<◌, ◌≤◌}
+use Prim.Native.Nat.{ℕ, suc, ◌+◌, ◌*◌, ◌^◌, ◌<◌, ◌≤◌}
 use mathlib.Core.Path.{◌≡◌, refl, sym, ap, ap₂, ◌∙◌}
-use mathlib.Core.Bool.{Bool, true, false, cond, ◌&&◌, false≢true}
+use mathlib.Core.Bool.{Bool, true, false, cond, false≢true}
 use mathlib.Core.List.{List, [], ◌∷◌, ◌++◌}
 use native.Mathlib.Nat.{zero-add}
 use native.Mathlib.Omega.{arith}
-use lib.Dec.{ltb, eqb}
+use lib.Dec.{ltb}
 use borrow.Author.Tests.{lt-ltb}
-use lib.ListN.{length, get_or, drop, set, replicate, length-set}
+use lib.ListN.{length, drop, set, replicate, length-set}
 use Rattle.parts.specs.declared.part.Part.{Part}
 use Rattle.parts.specs.declared.status.Status.{Status}
-use Rattle.parts.specs.Status.{protected_start, status_byte, with_wel}
+use Rattle.parts.specs.Status.{protected_start, with_wel}
 use Rattle.serial.specs.Address.{next_address}
 use Rattle.serial.specs.declared.write.Write.{Write}
 use Rattle.serial.specs.declared.write.Write.TheVariants.{Nothing, Byte}
 use Rattle.serial.specs.Write.{applied}
-use Rattle.rolled_read.specs.Rolled.{rolled_from}
 use Rattle.rolled_write.specs.Written.{written_from}
 use Rattle.selection.specs.declared.phase.Action.{Action}
 use Rattle.selection.specs.declared.phase.Field.{Field}
@@ -24,18 +23,17 @@ use Rattle.selection.specs.declared.phase.Field.TheVariants.{Opcode, ReadAddress
 use Rattle.selection.specs.declared.phase.Phase.{Phase}
 use Rattle.selection.specs.declared.phase.Phase.TheVariants.{Rest, Ignoring, Taking, Showing, Waiting, Pending}
 use Rattle.selection.specs.declared.phase.Source.{Source}
-use Rattle.selection.specs.declared.phase.Source.TheVariants.{Memory, Register, Identity}
 use Rattle.selection.specs.declared.opcode.Command.{Command}
 use Rattle.selection.specs.declared.opcode.Command.TheVariants.{WREN, WRDI, RDSR, WRSR, READ, WRITE, FSTRD, RDID, SLEEP, Unknown}
 use Rattle.selection.specs.Opcode.{command_of}
 use Rattle.selection.specs.Phase.{width, data_after, phase_after_opcode, phase_after_data, phase_after_field}
 use Rattle.spi.specs.Store.{permitted, finished_write, end_write}
-use Rattle.spi_status.specs.Deselect.{status_after, sleeps, asleep_after}
+use Rattle.spi_status.specs.Deselect.{status_after, asleep_after}
 use Rattle.byte_path.specs.declared.head.Head.{Head}
-use Rattle.byte_path.specs.PinPath.{Back, bytes_of, first_driven, driven_count}
+use Rattle.byte_path.specs.PinPath.{Back}
 use Rattle.byte_path.specs.ByBytes.{AtBorder, phase_after_byte, byte_back, byte_write, undriven, source_back, phase_after_bytes, memory_after_bytes, back_after_bytes}
 use Rattle.byte_path.specs.Head.{head_field, is_head, ahead, head_from, Bordered}
-use Rattle.byte_rest.specs.Rest.{shown_from, rest_back, identity_from, field_memory, rest_memory, phase_end}
+use Rattle.byte_rest.specs.Rest.{shown_from, rest_back, rest_memory, phase_end}
 use Rattle.byte_path.proofs.ByBytes.{EachByte}
 use Rattle.byte_path.proofs.HeadLaws.{bordered_next}
 

@@ -1,3 +1,4 @@
 // The bytes of a selection after its head.
 #![tactic(auto)]
+
 pub mod data;

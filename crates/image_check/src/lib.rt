@@ -1,5 +1,6 @@
 // Which buffers are images, by tests on their fields alone: no state is made.
 #![tactic(auto)]
+
 pub mod fields;
 pub mod i2c_phase;
 pub mod phase;

@@ -1,6 +1,6 @@
 -- The bits of an SPI part's field or byte apart from its phase: put together they are the phase, an early rise only adds one, and the next
 -- one leaves a phase without bits or with the first of the next data byte. By the phase. Assumes nothing.
-use Prim.Native.Nat.{ℕ, ◌+◌, ◌-◌, ◌^◌, ◌<◌, ◌≤◌}
+use Prim.Native.Nat.{ℕ, ◌+◌, ◌^◌, ◌<◌, ◌≤◌}
 use mathlib.Core.Path.{◌≡◌, refl, sym, ap, ◌∙◌, subst}
 use mathlib.Core.Bool.{Bool, true, false, cond}
 use mathlib.Core.List.{List, [], ◌∷◌}

@@ -1,6 +1,6 @@
 -- What the code makes of a selection, head and rest by their number, is what the definition on the pins gives. From the fold of byte
 -- steps, from the head and from the rest. Assumes nothing.
-use Prim.Native.Nat.{ℕ, zero, suc, ◌+◌, ◌-◌, ◌/◌, ◌%◌, ◌<◌, ◌≤◌}
+use Prim.Native.Nat.{ℕ, suc, ◌+◌, ◌-◌, ◌/◌, ◌%◌, ◌<◌, ◌≤◌}
 use mathlib.Core.Path.{◌≡◌, refl, sym, ap, ap₂, ◌∙◌, subst}
 use mathlib.Core.Bool.{Bool, true, false, cond, false≢true}
 use mathlib.Core.List.{List, [], ◌∷◌, ◌++◌}
@@ -14,7 +14,6 @@ use Rattle.parts.specs.declared.part.Part.{Part}
 use Rattle.parts.specs.declared.status.Status.{Status}
 use Rattle.parts.specs.Table.{is_spi, part_of}
 use Rattle.parts.proofs.Rows.{and_both, part_fits, bytewise, identity_bytes}
-use Rattle.selection.specs.declared.phase.Field.{Field}
 use Rattle.selection.specs.declared.phase.Field.TheVariants.{Opcode, ReadAddress, FastAddress, WriteAddress, Dummy, Data, StatusByte}
 use Rattle.selection.specs.declared.phase.Phase.{Phase}
 use Rattle.selection.specs.declared.phase.Phase.TheVariants.{Rest, Ignoring, Taking, Showing, Waiting, Pending}
@@ -27,7 +26,6 @@ use Rattle.spi.specs.Sample.{selected}
 use Rattle.spi.specs.Store.{end_write}
 use Rattle.spi.proofs.Keeps.{selected_in}
 use Rattle.spi_status.specs.Deselect.{status_after, asleep_after}
-use Rattle.chip.specs.declared.model.BusState.{BusState}
 use Rattle.chip.specs.declared.model.BusState.TheVariants.{SpiOn}
 use Rattle.chip.specs.declared.model.Model.{Model}
 use Rattle.chip.specs.Check.{Sound}
@@ -40,8 +38,8 @@ use Rattle.byte_path.specs.Head.{is_head, head_from, Bordered}
 use Rattle.byte_rest.specs.Rest.{rest_back, rest_memory, phase_end}
 use Rattle.byte_path.proofs.ByteLaws.{AllBytes}
 use Rattle.byte_path.proofs.ByBytes.{EachByte, first_border, by_bytes_lem}
-use Rattle.byte_rest.proofs.RestLaws.{memory_ended, waits, Ends, over_back, over_memory, over_ends, Headed, headed}
-use Rattle.byte_rest.proofs.BackLaws.{quiet_bytes, quiet_first, quiet_count, Leading, all_quiet, memory_leading, register_leading, identity_leading}
+use Rattle.byte_rest.proofs.RestLaws.{memory_ended, waits, Ends, over_back, over_memory, over_ends, headed}
+use Rattle.byte_rest.proofs.BackLaws.{quiet_bytes, quiet_first, quiet_count, all_quiet, memory_leading, register_leading, identity_leading}
 
 -- a slice of bytes, byte by byte
 pub each_byte : (vs : List ℕ) → AllBytes vs → EachByte vs

@@ -1,8 +1,6 @@
 -- `field_after` meets its contract: there is room for the byte, and the number of the field stays small. Assumes nothing.
 use native.Mathlib.Omega.{arith}
-use borrow.Author.Rules.{rules}
-use borrow.Author.Tests.{lt-ltb, le-ltb}
-use Rattle.byte_path.proofs.HeadLaws.{roomy, more_below}
+use Rattle.byte_path.proofs.HeadLaws.{more_below}
 use Rattle.byte_path.proofs.head.field_after.Goals as goal
 
 pub after_field-requires : goal.after_field-requires

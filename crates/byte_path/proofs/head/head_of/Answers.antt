@@ -1,14 +1,13 @@
 -- `head_of` meets its contract: the head of what is left, after the bytes taken, is the head of all. The measure is what is left.
 -- Assumes nothing.
-use Prim.Native.Nat.{ℕ, ◌-◌, ◌<◌, ◌≤◌}
-use mathlib.Core.Path.{◌≡◌, refl, sym, ap, ◌∙◌}
-use mathlib.Core.List.{List, ◌++◌}
+use Prim.Native.Nat.{◌<◌}
+use mathlib.Core.Path.{sym, ap, ◌∙◌}
+use mathlib.Core.List.{◌++◌}
 use native.Mathlib.Numerals.{add-one}
 use native.Mathlib.Omega.{arith}
-use lib.ListN.{length, get_or, drop, replicate, length-set}
+use lib.ListN.{get_or, drop, replicate, length-set}
 use Rattle.byte_path.specs.declared.head.Head.{Head}
-use Rattle.byte_path.specs.Head.{ahead, head_from, Bordered}
-use Rattle.byte_path.proofs.HeadLaws.{bordered_next, head_start, head_on, head_over, head_end, quiet_on}
+use Rattle.byte_path.proofs.HeadLaws.{bordered_next, head_on, head_over, quiet_on}
 use Rattle.byte_path.proofs.head.head_of.Goals as goal
 
 pub loop-at-preserved : goal.loop-at-preserved

@@ -1,14 +1,10 @@
 -- `head_of` meets its contract: the head of what is left, after the bytes taken, is the head of all. The measure is what is left.
 -- Assumes nothing.
-use Prim.Native.Nat.{ℕ, ◌-◌, ◌<◌, ◌≤◌}
-use mathlib.Core.Path.{◌≡◌, refl, sym, ap, ◌∙◌}
-use mathlib.Core.List.{List, ◌++◌}
-use native.Mathlib.Numerals.{add-one}
-use native.Mathlib.Omega.{arith}
-use lib.ListN.{length, get_or, drop, replicate, length-set}
-use Rattle.byte_path.specs.declared.head.Head.{Head}
+use Prim.Native.Nat.{◌-◌, ◌≤◌}
+use mathlib.Core.Path.{◌≡◌}
+use mathlib.Core.List.{◌++◌}
+use lib.ListN.{length, drop, replicate}
 use Rattle.byte_path.specs.Head.{ahead, head_from, Bordered}
-use Rattle.byte_path.proofs.HeadLaws.{bordered_next, head_start, head_on, head_over, head_end, quiet_on}
 use Rattle.byte_path.proofs.head.head_of.Given as goal
 
 abbrev pub invariant-loop-at : goal.invariant-loop-at

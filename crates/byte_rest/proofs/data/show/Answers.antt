@@ -1,5 +1,4 @@
 -- `show` meets its contract, phase by phase. Assumes nothing.
-use borrow.Author.Rules.{rules}
 use Rattle.byte_rest.proofs.BackLaws.{quiet_over}
 use Rattle.byte_rest.proofs.data.show.Goals as goal
 

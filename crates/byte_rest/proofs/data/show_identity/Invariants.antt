@@ -1,12 +1,10 @@
 -- `show_identity` meets its contract. The loop's invariant: what is before the place, with the identity from the index on up to the end,
 -- is the whole. Assumes nothing.
 use Prim.Native.Nat.{◌-◌, ◌≤◌}
-use mathlib.Core.Path.{◌≡◌, refl, sym, ◌∙◌}
+use mathlib.Core.Path.{◌≡◌}
 use mathlib.Core.List.{◌++◌}
-use borrow.Author.Rules.{rules}
-use lib.ListN.{length, take, length-set}
+use lib.ListN.{length, take}
 use Rattle.byte_rest.specs.Rest.{identity_from}
-use Rattle.byte_rest.proofs.BackLaws.{identity_on, identity_over}
 use Rattle.byte_rest.proofs.data.show_identity.Given as goal
 
 abbrev pub invariant-loop-at : goal.invariant-loop-at

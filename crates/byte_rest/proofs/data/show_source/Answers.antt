@@ -2,9 +2,7 @@
 use Prim.Native.Nat.{ℕ, ◌-◌}
 use mathlib.Core.Path.{sym, ap, ◌∙◌}
 use mathlib.Core.List.{List, ◌++◌}
-use native.Mathlib.Omega.{arith}
 use lib.ListN.{length, take}
-use borrow.Author.Rules.{rules}
 use Rattle.byte_rest.proofs.BackLaws.{memory_bytes, register_bytes, identity_bytes, memory_leading, register_leading, identity_leading}
 use Rattle.byte_rest.proofs.data.show_source.Goals as goal
 
@@ -13,7 +11,7 @@ returns-in-Memory-clause-output c =
     let a = c.args in
     let n = length a.output.now - a.from in
     rw c.in-Memory.is (c.read_rolled.ensures
-          ∙ ap (λ (l : List ℕ). take a.from a.output.now ++ l) (sym (memory_bytes a.part a.status a.memory.now c.requires.1 n _)))
+    ∙ ap (λ (l : List ℕ). take a.from a.output.now ++ l) (sym (memory_bytes a.part a.status a.memory.now c.requires.1 n _)))
 
 pub returns-in-Memory-clause-count : goal.returns-in-Memory-clause-count
 returns-in-Memory-clause-count c =
@@ -32,8 +30,8 @@ returns-in-Register-clause-output c =
     let a = c.args in
     let n = length a.output.now - a.from in
     rw c.in-Register.is (c.fill.ensures
-          ∙ ap (λ (l : List ℕ). take a.from a.output.now ++ l)
-          (rw c.byte.ensures (sym (register_bytes a.part a.status a.memory.now n))))
+    ∙ ap (λ (l : List ℕ). take a.from a.output.now ++ l)
+    (rw c.byte.ensures (sym (register_bytes a.part a.status a.memory.now n))))
 
 pub returns-in-Identity-clause-count : goal.returns-in-Identity-clause-count
 returns-in-Identity-clause-count c =
@@ -48,4 +46,4 @@ returns-in-Identity-clause-output c =
     let n = length a.output.now - a.from in
     let h = rw c.in-Identity.is at c.requires.0 in
     rw c.in-Identity.is (c.show_identity.ensures
-          ∙ ap (λ (l : List ℕ). take a.from a.output.now ++ l) (sym (identity_bytes a.part a.status a.memory.now n _)))
+    ∙ ap (λ (l : List ℕ). take a.from a.output.now ++ l) (sym (identity_bytes a.part a.status a.memory.now n _)))

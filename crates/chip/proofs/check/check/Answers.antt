@@ -1,8 +1,6 @@
 -- `check` meets its contract: 1 before 2 and 3. Assumes nothing.
 use Rattle.chip.specs.Check.{check_of}
-use Rattle.parts.proofs.Rows.{part_fits}
 use mathlib.Core.Path.{sym, ◌∙◌}
-use borrow.Author.Rules.{rules}
 use Rattle.chip.proofs.check.check.Goals as goal
 
 pub returns-then-model_in : goal.returns-then-model_in

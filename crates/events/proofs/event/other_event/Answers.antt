@@ -1,6 +1,4 @@
 -- `other_event` meets its contract, by what the bus waits for. Assumes nothing.
-use mathlib.Core.Path.{sym}
-use borrow.Author.Rules.{rules}
 use Rattle.events.proofs.OtherEventLaws.{gives_unpowered}
 use Rattle.events.proofs.event.other_event.Goals as goal
 

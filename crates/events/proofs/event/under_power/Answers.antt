@@ -1,6 +1,5 @@
 -- `under_power` meets its contract, event by event: by the requirement it is no sample. Assumes nothing.
 use mathlib.Core.Path.{refl}
-use borrow.Author.Rules.{rules}
 use Rattle.events.proofs.OtherEventLaws.{gives_spi_on, gives_i2c_on, gives_off, gives_expected}
 use Rattle.events.proofs.event.under_power.Goals as goal
 

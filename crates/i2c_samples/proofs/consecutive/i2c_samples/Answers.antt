@@ -1,12 +1,10 @@
 -- `i2c_samples` meets its contract. The loop's invariant: the part is the one of the state, memory and answers keep their lengths, the
 -- bits are few, the end is where quota or trace stop, and what is left of the samples, from the parts of the state that the loop keeps,
 -- leads to what all of them give. A turn goes on by its edge. Assumes nothing.
-use mathlib.Core.Path.{◌≡◌, refl, sym, ◌∙◌}
+use mathlib.Core.Path.{refl, sym, ◌∙◌}
 use mathlib.Core.Bool.{true, false}
-use Prim.Native.Nat.{◌-◌, ◌^◌, ◌<◌}
+use Prim.Native.Nat.{◌^◌, ◌<◌}
 use native.Mathlib.Omega.{arith}
-use borrow.Author.Rules.{rules}
-use lib.ListN.{length, drop}
 use Rattle.parts.specs.Numbers.{answer_number}
 use Rattle.parts.specs.Table.{part_of}
 use Rattle.parts.proofs.Rows.{part_fits}
@@ -15,12 +13,12 @@ use Rattle.transfer.specs.declared.edge.Edge.TheVariants.{Start, Stop, Rise, Fal
 use Rattle.transfer.specs.Levels.{levels_of}
 use Rattle.i2c.specs.Sample.{answer_of}
 use Rattle.chip.proofs.CheckLaws.{sound_in, i2c_ready}
-use Rattle.samples.specs.Samples.{samples_of, i2c_of}
-use Rattle.samples.proofs.BoundLaws.{Bound, bound_first, bound_room, bound_next, asked, before_end}
-use Rattle.samples.proofs.SamplesLaws.{end, three, more, Going, stops}
+use Rattle.samples.specs.Samples.{i2c_of}
+use Rattle.samples.proofs.BoundLaws.{bound_first, bound_next, asked, before_end}
+use Rattle.samples.proofs.SamplesLaws.{three, stops}
 use Rattle.phase_bits.specs.Byte.{with_bits}
-use Rattle.phase_bits.proofs.ByteLaws.{same_bits_lem, one_more_lem, none_written, buffer_stays, fresh, flag_same, value_small, room_for_one}
-use Rattle.i2c_samples.proofs.I2cLaws.{i2c_model, same_model, ready, Turned, turned_length, turn}
+use Rattle.phase_bits.proofs.ByteLaws.{same_bits_lem, one_more_lem, none_written, buffer_stays, fresh, flag_same, value_small}
+use Rattle.i2c_samples.proofs.I2cLaws.{same_model, ready, Turned, turned_length, turn}
 use Rattle.i2c_samples.proofs.consecutive.i2c_samples.Goals as goal
 use Rattle.i2c_samples.proofs.consecutive.i2c_samples.Goals.{in-Start, in-Stop, in-Rise+then-bits-lt8, in-Rise+else-bits-lt8, in-Fall, in-Quiet}
 
@@ -77,12 +75,12 @@ loop-part-preserved c =
     let a = c.args in
     let w : Turned c.clock_first.result a.part a.model.pins (i2c_of (levels_of l.last) l.pulling l.buffer (with_bits l.phase l.bits l.value)) levels.result l.memory now.pulling now.buffer (with_bits now.phase now.bits now.value) now.memory × (now.value < 2 ^ now.bits) =
     elim now.branch [
-      in-Start w ↦ (record { edge = Start; seen = w.in-Start.is; memory = w.memory-is; pulling = w.pulling-is; buffer = w.buffer-is; phase = rw (w.phase-is, w.bits-is, w.value-is, w.taking-phase.ensures) }, rw (w.bits-is, w.value-is) (omega arith))
-    | in-Stop w ↦ (record { edge = Stop; seen = w.in-Stop.is; memory = w.memory-is; pulling = w.pulling-is; buffer = w.buffer-is; phase = rw w.phase-is }, rw (w.bits-is, w.value-is) l.invariant.3)
-    | in-Rise+then-bits-lt8 w ↦ (record { edge = Rise _; seen = w.in-Rise.is; memory = rw (none_written l.bits l.value w.if-bits-lt8.true levels.result.wp l.phase) w.memory-is; pulling = w.pulling-is; buffer = rw (buffer_stays l.bits l.value w.if-bits-lt8.true a.part l.buffer l.phase) w.buffer-is; phase = rw (w.phase-is, w.bits-is, w.value-is, w.shift_in-value.ensures) (sym (one_more_lem l.bits l.value w.if-bits-lt8.true a.part a.model.pins l.buffer w.in-Rise.line l.phase)) }, rw (w.bits-is, w.value-is, w.shift_in-value.ensures) (shifted_within l.bits l.value w.in-Rise.line l.invariant.3))
-    | in-Rise+else-bits-lt8 w ↦ (record { edge = Rise _; seen = w.in-Rise.is; memory = w.memory-is ∙ rw w.with_bits-whole.ensures at w.store.ensures; pulling = w.pulling-is; buffer = w.buffer-is ∙ rw w.with_bits-whole.ensures at w.buffer_after-buffer.ensures; phase = rw (w.phase-is, w.bits-is, w.value-is, w.after_rise-phase.ensures, w.with_bits-whole.ensures) (fresh a.part a.model.pins l.buffer l.bits l.value w.in-Rise.line l.phase w.if-bits-lt8.false) }, rw (w.bits-is, w.value-is) (omega arith))
-    | in-Fall w ↦ (record { edge = Fall; seen = w.in-Fall.is; memory = w.memory-is; pulling = w.pulling-is ∙ rw w.with_bits-whole-in-Fall.ensures at w.pulls_after-pulling.ensures; buffer = w.buffer-is; phase = rw (w.phase-is, w.bits-is, w.value-is) }, rw (w.bits-is, w.value-is) l.invariant.3)
-    | in-Quiet w ↦ (record { edge = Quiet; seen = w.in-Quiet.is; memory = w.memory-is; pulling = w.pulling-is; buffer = w.buffer-is; phase = rw (w.phase-is, w.bits-is, w.value-is) }, rw (w.bits-is, w.value-is) l.invariant.3)
+      | in-Start w ↦ (record { edge = Start; seen = w.in-Start.is; memory = w.memory-is; pulling = w.pulling-is; buffer = w.buffer-is; phase = rw (w.phase-is, w.bits-is, w.value-is, w.taking-phase.ensures) }, rw (w.bits-is, w.value-is) (omega arith))
+      | in-Stop w ↦ (record { edge = Stop; seen = w.in-Stop.is; memory = w.memory-is; pulling = w.pulling-is; buffer = w.buffer-is; phase = rw w.phase-is }, rw (w.bits-is, w.value-is) l.invariant.3)
+      | in-Rise+then-bits-lt8 w ↦ (record { edge = Rise _; seen = w.in-Rise.is; memory = rw (none_written l.bits l.value w.if-bits-lt8.true levels.result.wp l.phase) w.memory-is; pulling = w.pulling-is; buffer = rw (buffer_stays l.bits l.value w.if-bits-lt8.true a.part l.buffer l.phase) w.buffer-is; phase = rw (w.phase-is, w.bits-is, w.value-is, w.shift_in-value.ensures) (sym (one_more_lem l.bits l.value w.if-bits-lt8.true a.part a.model.pins l.buffer w.in-Rise.line l.phase)) }, rw (w.bits-is, w.value-is, w.shift_in-value.ensures) (shifted_within l.bits l.value w.in-Rise.line l.invariant.3))
+      | in-Rise+else-bits-lt8 w ↦ (record { edge = Rise _; seen = w.in-Rise.is; memory = w.memory-is ∙ rw w.with_bits-whole.ensures at w.store.ensures; pulling = w.pulling-is; buffer = w.buffer-is ∙ rw w.with_bits-whole.ensures at w.buffer_after-buffer.ensures; phase = rw (w.phase-is, w.bits-is, w.value-is, w.after_rise-phase.ensures, w.with_bits-whole.ensures) (fresh a.part a.model.pins l.buffer l.bits l.value w.in-Rise.line l.phase w.if-bits-lt8.false) }, rw (w.bits-is, w.value-is) (omega arith))
+      | in-Fall w ↦ (record { edge = Fall; seen = w.in-Fall.is; memory = w.memory-is; pulling = w.pulling-is ∙ rw w.with_bits-whole-in-Fall.ensures at w.pulls_after-pulling.ensures; buffer = w.buffer-is; phase = rw (w.phase-is, w.bits-is, w.value-is) }, rw (w.bits-is, w.value-is) l.invariant.3)
+      | in-Quiet w ↦ (record { edge = Quiet; seen = w.in-Quiet.is; memory = w.memory-is; pulling = w.pulling-is; buffer = w.buffer-is; phase = rw (w.phase-is, w.bits-is, w.value-is) }, rw (w.bits-is, w.value-is) l.invariant.3)
     ] in
     let yes = asked a.trace.now 8 (answer_number (answer_of l.pulling)) _ l.offset _ c.next_is.ensures a.quota l.count l.invariant.4 true c.loop-part-test.true in
     (l.invariant.0, turned_length w.0 ∙ l.invariant.1, c.note_pull.auto.answers ∙ l.invariant.2, w.1, bound_next l.invariant.4 (before_end a.trace.now 8 (answer_number (answer_of l.pulling)) _ l.offset _ c.next_is.ensures c.loop-part-test.true), turn a.model l.last l.pulling l.buffer (with_bits l.phase l.bits l.value) l.memory l.invariant.5 yes a.part l.invariant.0 c.first_sample-sample.result c.first_sample-sample.ensures before.result levels.result before.ensures levels.ensures c.clock_first.result (rw (before.ensures, levels.ensures) c.clock_first.ensures) _ now.pulling now.buffer (with_bits now.phase now.bits now.value) now.memory _ (rw (flag_same l.phase l.bits l.value before.result levels.result) c.flag_after-flag.ensures) w.0 c.note_pull.ensures)

@@ -1,12 +1,9 @@
 -- `put_number` meets its contract. The loop's invariant: what is left of the number, stored from here on, completes the whole.
 use Prim.Native.Nat.{◌+◌, ◌≤◌}
-use mathlib.Core.Path.{◌≡◌, refl, sym, ◌∙◌}
-use native.Mathlib.Omega.{arith}
-use borrow.Author.Rules.{rules}
-use lib.ListN.{length, length-set}
+use mathlib.Core.Path.{◌≡◌}
+use lib.ListN.{length}
 use lib.Seq.{sets}
 use Rattle.image.specs.Bytes.{bytes_of}
-use Rattle.image.proofs.ByteLaws.{put_on, put_over}
 use Rattle.image.proofs.layout.put_number.Given as goal
 
 abbrev pub invariant-loop-left : goal.invariant-loop-left

@@ -1,6 +1,5 @@
 -- `put_numbers` meets its contract: four numbers fill the buffer. Assumes nothing.
 use mathlib.Core.List.{◌++◌}
-use borrow.Author.Rules.{rules}
 use Rattle.image.specs.Bytes.{bytes_of}
 use Rattle.image.proofs.ByteLaws.{filled}
 use Rattle.image.proofs.layout.put_numbers.Goals as goal

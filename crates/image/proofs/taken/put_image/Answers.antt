@@ -1,6 +1,5 @@
 -- `put_image` meets its contract: the fields of a state that passes fit their bytes. Assumes nothing.
-use borrow.Author.Rules.{rules}
-use Rattle.image.proofs.RangeLaws.{part_small, pins_small, small_fields}
+use Rattle.image.proofs.RangeLaws.{small_fields}
 use Rattle.image.proofs.taken.put_image.Goals as goal
 
 pub put_fields-requires : goal.put_fields-requires

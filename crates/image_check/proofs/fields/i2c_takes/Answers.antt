@@ -1,8 +1,6 @@
 -- `i2c_takes` meets its contract: each test that fails settles it, and the last call says the rest. Assumes nothing.
 use mathlib.Core.Path.{sym, ◌∙◌}
-use Rattle.image_check.proofs.FieldLaws.{and_false, not_zero, flag_large, i2c_large, pull_one, pull_large}
-use Rattle.image_check.proofs.BusLaws.{i2c_all, i2c_bus, i2c_buffer, i2c_latch}
-use borrow.Author.Rules.{rules}
+use Rattle.image_check.proofs.BusLaws.{i2c_all, i2c_latch}
 use Rattle.image_check.proofs.fields.i2c_takes.Goals as goal
 
 pub returns-then-latch_clear : goal.returns-then-latch_clear

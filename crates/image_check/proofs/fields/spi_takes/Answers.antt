@@ -1,8 +1,6 @@
 -- `spi_takes` meets its contract: each test that fails settles it, and the last call says the rest. Assumes nothing.
 use mathlib.Core.Path.{sym, ◌∙◌}
-use Rattle.image_check.proofs.FieldLaws.{and_false, not_zero, flag_large, spi_large, shown_large}
-use Rattle.image_check.proofs.BusLaws.{spi_all, spi_bus}
-use borrow.Author.Rules.{rules}
+use Rattle.image_check.proofs.BusLaws.{spi_all}
 use Rattle.image_check.proofs.fields.spi_takes.Goals as goal
 
 pub returns-then-is_spi : goal.returns-then-is_spi

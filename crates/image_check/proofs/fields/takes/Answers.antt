@@ -1,8 +1,6 @@
 -- `takes` meets its contract: each test that fails settles it, and the last call says the rest. Assumes nothing.
-use mathlib.Core.Path.{sym, ◌∙◌}
-use Rattle.parts.proofs.Rows.{part_fits}
-use Rattle.image_check.proofs.BusLaws.{no_part, no_pins, no_status, takes_bus_lem}
-use borrow.Author.Rules.{rules}
+use mathlib.Core.Path.{sym}
+use Rattle.image_check.proofs.BusLaws.{no_pins}
 use Rattle.image_check.proofs.fields.takes.Goals as goal
 
 pub returns-then-fields-part : goal.returns-then-fields-part

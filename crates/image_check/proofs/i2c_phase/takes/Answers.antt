@@ -2,8 +2,6 @@
 use Rattle.image_fields.specs.I2cPhase.{phase_in}
 use Rattle.image.proofs.TakenLaws.{same_itself}
 use Rattle.image_check.proofs.FieldLaws.{and_true, zero_first, up_to}
-use borrow.Author.Tests.{ne_eqb}
-use borrow.Author.Rules.{rules}
 use Rattle.image_check.proofs.i2c_phase.takes.Goals as goal
 
 pub returns-in-0 : goal.returns-in-0

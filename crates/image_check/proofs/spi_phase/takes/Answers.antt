@@ -2,8 +2,6 @@
 use Rattle.image_fields.specs.SpiPhase.{phase_in}
 use Rattle.image.proofs.TakenLaws.{same_itself}
 use Rattle.image_check.proofs.FieldLaws.{and_true, zero_first}
-use borrow.Author.Tests.{ne_eqb}
-use borrow.Author.Rules.{rules}
 use Rattle.image_check.proofs.spi_phase.takes.Goals as goal
 
 pub returns-in-0 : goal.returns-in-0

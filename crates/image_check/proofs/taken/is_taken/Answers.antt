@@ -1,7 +1,6 @@
 -- `is_taken` meets its contract, by the tests in the order of the definition. Assumes nothing.
 use mathlib.Core.Path.{sym, ◌∙◌}
 use Rattle.image_check.proofs.BusLaws.{no_length, no_zeros, takes_fields_lem}
-use borrow.Author.Rules.{rules}
 use Rattle.image_check.proofs.taken.is_taken.Goals as goal
 
 pub returns-then-bytes-ne32 : goal.returns-then-bytes-ne32

@@ -1,13 +1,8 @@
 -- `zeros_from` meets its contract. The loop's invariant: the bytes from here on are all 0 exactly if those from the start on are.
 -- Assumes nothing.
 use Prim.Native.Nat.{◌-◌, ◌≤◌}
-use mathlib.Core.Path.{◌≡◌, refl}
-use native.Mathlib.Numerals.{add-one}
-use native.Mathlib.Omega.{arith}
-use borrow.Author.Rules.{rules}
-use borrow.Author.Tests.{eq-eqb, ne_eqb}
+use mathlib.Core.Path.{◌≡◌}
 use lib.ListN.{length, drop}
-use lib.Seq.{drop-cons, drop-length}
 use Rattle.image.specs.Taken.{zeros}
 use Rattle.image_check.proofs.taken.zeros_from.Given as goal
 

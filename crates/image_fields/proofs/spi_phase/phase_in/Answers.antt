@@ -1,7 +1,6 @@
 -- `phase_in` meets its contract. Assumes nothing.
 use Rattle.image_fields.specs.SpiPhase.{phase_in}
 use borrow.Author.Tests.{ne_eqb}
-use borrow.Author.Rules.{rules}
 use Rattle.image_fields.proofs.spi_phase.phase_in.Goals as goal
 
 pub returns-in-0 : goal.returns-in-0

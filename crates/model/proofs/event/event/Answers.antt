@@ -1,7 +1,6 @@
 -- `event` meets its contract: 1 to 3 before the others. Assumes nothing.
 use mathlib.Core.Path.{sym, ◌∙◌}
 use Rattle.runs.specs.Event.{event_of}
-use borrow.Author.Rules.{rules}
 use Rattle.model.proofs.event.event.Goals as goal
 
 pub returns-in-Passed-clause-memory : goal.returns-in-Passed-clause-memory

@@ -1,7 +1,6 @@
 -- `make` meets its contract. Assumes nothing.
 use Rattle.model.specs.Make.{make_of}
 use mathlib.Core.Path.{sym, ◌∙◌}
-use borrow.Author.Rules.{rules}
 use Rattle.model.proofs.make.make.Goals as goal
 
 pub returns-then-make_in : goal.returns-then-make_in

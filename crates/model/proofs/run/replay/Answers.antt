@@ -1,7 +1,6 @@
 -- `replay` meets its contract: 1 to 3 first, then the run. Assumes nothing.
 use mathlib.Core.Path.{sym, ◌∙◌}
 use Rattle.runs.specs.Run.{run_of}
-use borrow.Author.Rules.{rules}
 use Rattle.model.proofs.run.replay.Goals as goal
 
 pub returns-in-Passed-clause-memory : goal.returns-in-Passed-clause-memory

@@ -1,7 +1,6 @@
 -- `select` meets its contract: 1 to 3 before the others. Assumes nothing.
 use mathlib.Core.Path.{sym, ◌∙◌}
 use Rattle.byte_path.specs.Select.{select_of}
-use borrow.Author.Rules.{rules}
 use Rattle.model.proofs.select.select.Goals as goal
 
 pub returns-in-Passed-clause-selected : goal.returns-in-Passed-clause-selected

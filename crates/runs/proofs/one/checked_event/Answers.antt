@@ -1,5 +1,4 @@
 -- `checked_event` meets its contract: no bytes, or a run of one event. Assumes nothing.
-use borrow.Author.Rules.{rules}
 use Rattle.runs.proofs.OneLaws.{nothing_read, one}
 use Rattle.runs.proofs.one.checked_event.Goals as goal
 

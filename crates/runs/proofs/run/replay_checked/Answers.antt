@@ -1,20 +1,13 @@
 -- `replay_checked` meets its contract. The loop's invariant: state and memory still pass 1 to 3, the part is the one of the
 -- state, and what is left of the run, with what it has given so far, is the whole run. A turn takes the samples at hand, and then
 -- one other event. Assumes nothing.
-use mathlib.Core.Path.{◌≡◌, refl, sym, ◌∙◌}
+use mathlib.Core.Path.{sym, ◌∙◌}
 use mathlib.Core.Logic.{◌⊎◌, inl, inr}
-use Prim.Native.Nat.{◌≤◌, ◌-◌}
+use Prim.Native.Nat.{◌≤◌}
 use native.Mathlib.Omega.{arith}
-use native.Mathlib.Nat.{sub-zero}
-use borrow.Author.Rules.{rules}
-use borrow.Author.Tests.{leb-true, leb-false}
-use lib.ListN.{length, drop}
-use lib.Seq.{sets}
-use Rattle.parts.specs.Table.{part_of}
-use Rattle.chip.specs.Check.{Sound}
+use lib.ListN.{length}
 use Rattle.chip.proofs.CheckLaws.{sound_in}
-use Rattle.runs.specs.Run.{ran_of, loop_of}
-use Rattle.runs.proofs.RunLaws.{final, final_of, final_start, left_used, three}
+use Rattle.runs.proofs.RunLaws.{left_used, three}
 use Rattle.runs.proofs.SamplesRun.{samples_here, here_other}
 use Rattle.runs.proofs.OtherLaws.{used, went}
 use Rattle.runs.proofs.run.replay_checked.Goals as goal

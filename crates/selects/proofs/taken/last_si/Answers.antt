@@ -1,9 +1,7 @@
 -- `last_si` meets its contract: bit 7 - 7 of the last byte, if there is one. Assumes nothing.
 use mathlib.Core.Path.{sym}
 use native.Mathlib.Omega.{arith}
-use borrow.Author.Rules.{rules}
-use borrow.Author.Tests.{eqb-true, eqb-false}
-use Rattle.selects.proofs.SelectLaws.{last_bit_lem, no_bit}
+use Rattle.selects.proofs.SelectLaws.{last_bit_lem}
 use Rattle.selects.proofs.taken.last_si.Goals as goal
 
 pub returns : goal.returns

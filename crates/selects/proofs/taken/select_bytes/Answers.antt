@@ -1,11 +1,10 @@
 -- `select_bytes` meets its contract. The head and the rest by their number are what the definition on the pins gives (`taken`): each call
 -- is one of its parts. Assumes nothing.
 use Prim.Native.Nat.{ℕ, ◌-◌, ◌≤◌}
-use mathlib.Core.Path.{◌≡◌, sym, ap, ◌∙◌}
-use mathlib.Core.List.{List, ◌++◌}
+use mathlib.Core.Path.{◌≡◌, ap, ◌∙◌}
+use mathlib.Core.List.{◌++◌}
 use native.Mathlib.Omega.{arith}
-use lib.ListN.{length, take, drop, replicate}
-use borrow.Author.Rules.{rules}
+use lib.ListN.{length, drop, replicate}
 use Rattle.parts.specs.Table.{part_of}
 use Rattle.spi.specs.Sample.{selected}
 use Rattle.chip.proofs.CheckLaws.{sound_in}

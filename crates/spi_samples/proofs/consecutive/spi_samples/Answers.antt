@@ -1,26 +1,22 @@
 -- `spi_samples` meets its contract. The loop's invariant: the part is the one of the state and fits, memory and answers keep their
 -- lengths, the bits are few, the end is where quota or trace stop, and what is left of the samples, from the parts of the state that the
 -- loop keeps, leads to what all of them give. A turn goes on by its edge. Assumes nothing.
-use mathlib.Core.Path.{◌≡◌, refl, sym, ◌∙◌}
+use mathlib.Core.Path.{refl, sym, ◌∙◌}
 use mathlib.Core.Bool.{true, false}
-use Prim.Native.Nat.{◌-◌}
-use native.Mathlib.Omega.{arith}
-use borrow.Author.Rules.{rules}
-use lib.ListN.{length, drop}
 use Rattle.parts.specs.Numbers.{answer_number}
-use Rattle.parts.specs.Table.{Fit, part_of}
+use Rattle.parts.specs.Table.{part_of}
 use Rattle.serial.proofs.BitLaws.{shifted_within}
 use Rattle.selection.specs.declared.edge.Edge.TheVariants.{Select, Deselect, Rise, Fall, Quiet}
 use Rattle.selection.specs.Levels.{levels_of}
 use Rattle.spi.specs.Show.{answer_at}
 use Rattle.spi.proofs.Keeps.{end_within}
 use Rattle.chip.proofs.CheckLaws.{sound_in, spi_ready}
-use Rattle.samples.specs.Samples.{samples_of, spi_of}
-use Rattle.samples.proofs.BoundLaws.{Bound, bound_first, bound_room, bound_next, asked, before_end}
-use Rattle.samples.proofs.SamplesLaws.{end, three, more, Going, stops}
+use Rattle.samples.specs.Samples.{spi_of}
+use Rattle.samples.proofs.BoundLaws.{bound_first, bound_next, asked, before_end}
+use Rattle.samples.proofs.SamplesLaws.{three, stops}
 use Rattle.phase_bits.specs.Field.{with_bits}
-use Rattle.phase_bits.proofs.FieldLaws.{BitsIn, none_in, same_bits_lem, one_more_lem, none_written, next_small, selected_fresh, selected_kept, kept_kept, value_small, early_few, room_for_one}
-use Rattle.spi_samples.proofs.SpiLaws.{spi_model, same_model, ready, Turned, turned_length, turn}
+use Rattle.phase_bits.proofs.FieldLaws.{BitsIn, none_in, same_bits_lem, one_more_lem, none_written, next_small, selected_fresh, selected_kept, kept_kept, value_small}
+use Rattle.spi_samples.proofs.SpiLaws.{same_model, ready, Turned, turned_length, turn}
 use Rattle.spi_samples.proofs.consecutive.spi_samples.Goals as goal
 use Rattle.spi_samples.proofs.consecutive.spi_samples.Goals.{in-Select, in-Deselect, in-Rise+then-bits-early, in-Rise+else-bits-early, in-Fall, in-Quiet}
 
@@ -69,12 +65,12 @@ loop-part-preserved c =
     let kept = l.invariant.4 in
     let w : Turned c.edge_of.result a.part l.status (spi_of (levels_of l.last) l.asleep l.shown (with_bits l.phase l.bits l.value)) levels.result l.memory now.status now.asleep now.shown (with_bits now.phase now.bits now.value) now.memory × BitsIn a.part now.phase now.bits now.value now.early =
     elim now.branch [
-      in-Select w ↦ (record { edge = Select; seen = w.in-Select.is; memory = w.memory-is; status = w.status-is; asleep = w.asleep-is; shown = w.shown-is; phase = rw (w.phase-is, w.bits-is, w.value-is, w.select-phase.ensures) (selected_fresh l.asleep) }, rw (w.phase-is, w.bits-is, w.value-is) (none_in _ _ _ (w.early-is ∙ w.early_of-early-in-Select.ensures) (rw w.select-phase.ensures (selected_kept l.asleep))))
-    | in-Deselect w ↦ (record { edge = Deselect; seen = w.in-Deselect.is; memory = w.memory-is ∙ rw w.with_bits-whole.ensures at w.end.ensures; status = w.status-is ∙ rw w.with_bits-whole.ensures at w.status_after-status.ensures; asleep = w.asleep-is ∙ rw w.with_bits-whole.ensures at w.asleep_after-asleep.ensures; shown = w.shown-is; phase = rw w.phase-is }, rw (w.phase-is, w.bits-is, w.value-is) (record { small = kept.small; early = w.early-is ∙ w.early_of-early-in-Deselect.ensures; kept = refl }))
-    | in-Rise+then-bits-early w ↦ let few = rw kept.early at w.if-bits-early.true in (record { edge = Rise _; seen = w.in-Rise.is; memory = rw (none_written a.part l.bits l.value w.in-Rise.si l.status l.phase few) w.memory-is; status = w.status-is; asleep = w.asleep-is; shown = w.shown-is; phase = rw (w.phase-is, w.bits-is, w.value-is, w.shift_in-value.ensures) (sym (one_more_lem a.part l.bits l.value w.in-Rise.si l.phase few)) }, rw (w.phase-is, w.bits-is, w.value-is, w.early-is, w.shift_in-value.ensures) (record { small = shifted_within l.bits l.value w.in-Rise.si kept.small; early = kept.early; kept = kept.kept }))
-    | in-Rise+else-bits-early w ↦ (record { edge = Rise _; seen = w.in-Rise.is; memory = w.memory-is ∙ w.rise-phase.ensures.memory; status = w.status-is; asleep = w.asleep-is; shown = w.shown-is; phase = rw (w.phase-is, w.bits-is, w.value-is, w.next_bits-bits.ensures, w.next_value-value.ensures, w.with_bits-whole-else-bits-early.ensures) w.rise-phase.ensures.phase }, rw (w.phase-is, w.bits-is, w.value-is, w.next_bits-bits.ensures, w.next_value-value.ensures) (record { small = next_small w.with_bits-whole-else-bits-early.result _; early = w.early-is ∙ w.early_of-early-else-bits-early.ensures; kept = w.rise-phase.ensures.kept }))
-    | in-Fall w ↦ (record { edge = Fall; seen = w.in-Fall.is; memory = w.memory-is; status = w.status-is; asleep = w.asleep-is; shown = w.shown-is ∙ rw w.with_bits-whole-in-Fall.ensures at w.after_fall-shown.ensures; phase = rw (w.phase-is, w.bits-is, w.value-is) }, rw (w.phase-is, w.bits-is, w.value-is, w.early-is) kept)
-    | in-Quiet w ↦ (record { edge = Quiet; seen = w.in-Quiet.is; memory = w.memory-is; status = w.status-is; asleep = w.asleep-is; shown = w.shown-is; phase = rw (w.phase-is, w.bits-is, w.value-is) }, rw (w.phase-is, w.bits-is, w.value-is, w.early-is) kept)
+      | in-Select w ↦ (record { edge = Select; seen = w.in-Select.is; memory = w.memory-is; status = w.status-is; asleep = w.asleep-is; shown = w.shown-is; phase = rw (w.phase-is, w.bits-is, w.value-is, w.select-phase.ensures) (selected_fresh l.asleep) }, rw (w.phase-is, w.bits-is, w.value-is) (none_in _ _ _ (w.early-is ∙ w.early_of-early-in-Select.ensures) (rw w.select-phase.ensures (selected_kept l.asleep))))
+      | in-Deselect w ↦ (record { edge = Deselect; seen = w.in-Deselect.is; memory = w.memory-is ∙ rw w.with_bits-whole.ensures at w.end.ensures; status = w.status-is ∙ rw w.with_bits-whole.ensures at w.status_after-status.ensures; asleep = w.asleep-is ∙ rw w.with_bits-whole.ensures at w.asleep_after-asleep.ensures; shown = w.shown-is; phase = rw w.phase-is }, rw (w.phase-is, w.bits-is, w.value-is) (record { small = kept.small; early = w.early-is ∙ w.early_of-early-in-Deselect.ensures; kept = refl }))
+      | in-Rise+then-bits-early w ↦ let few = rw kept.early at w.if-bits-early.true in (record { edge = Rise _; seen = w.in-Rise.is; memory = rw (none_written a.part l.bits l.value w.in-Rise.si l.status l.phase few) w.memory-is; status = w.status-is; asleep = w.asleep-is; shown = w.shown-is; phase = rw (w.phase-is, w.bits-is, w.value-is, w.shift_in-value.ensures) (sym (one_more_lem a.part l.bits l.value w.in-Rise.si l.phase few)) }, rw (w.phase-is, w.bits-is, w.value-is, w.early-is, w.shift_in-value.ensures) (record { small = shifted_within l.bits l.value w.in-Rise.si kept.small; early = kept.early; kept = kept.kept }))
+      | in-Rise+else-bits-early w ↦ (record { edge = Rise _; seen = w.in-Rise.is; memory = w.memory-is ∙ w.rise-phase.ensures.memory; status = w.status-is; asleep = w.asleep-is; shown = w.shown-is; phase = rw (w.phase-is, w.bits-is, w.value-is, w.next_bits-bits.ensures, w.next_value-value.ensures, w.with_bits-whole-else-bits-early.ensures) w.rise-phase.ensures.phase }, rw (w.phase-is, w.bits-is, w.value-is, w.next_bits-bits.ensures, w.next_value-value.ensures) (record { small = next_small w.with_bits-whole-else-bits-early.result _; early = w.early-is ∙ w.early_of-early-else-bits-early.ensures; kept = w.rise-phase.ensures.kept }))
+      | in-Fall w ↦ (record { edge = Fall; seen = w.in-Fall.is; memory = w.memory-is; status = w.status-is; asleep = w.asleep-is; shown = w.shown-is ∙ rw w.with_bits-whole-in-Fall.ensures at w.after_fall-shown.ensures; phase = rw (w.phase-is, w.bits-is, w.value-is) }, rw (w.phase-is, w.bits-is, w.value-is, w.early-is) kept)
+      | in-Quiet w ↦ (record { edge = Quiet; seen = w.in-Quiet.is; memory = w.memory-is; status = w.status-is; asleep = w.asleep-is; shown = w.shown-is; phase = rw (w.phase-is, w.bits-is, w.value-is) }, rw (w.phase-is, w.bits-is, w.value-is, w.early-is) kept)
     ] in
     let yes = asked a.trace.now 32 (answer_number (answer_at (levels_of l.last) l.shown)) _ l.offset _ c.next_is.ensures a.quota l.count l.invariant.5 true c.loop-part-test.true in
     (l.invariant.0, l.invariant.1, turned_length w.0 ∙ l.invariant.2, c.note_shown.auto.answers ∙ l.invariant.3, w.1, bound_next l.invariant.5 (before_end a.trace.now 32 (answer_number (answer_at (levels_of l.last) l.shown)) _ l.offset _ c.next_is.ensures c.loop-part-test.true), turn a.model l.status l.last l.asleep l.shown (with_bits l.phase l.bits l.value) l.memory l.invariant.6 yes a.part l.invariant.0 c.first_sample-sample.result c.first_sample-sample.ensures before.result levels.result before.ensures levels.ensures c.edge_of.result c.edge_of.ensures _ now.status now.asleep now.shown (with_bits now.phase now.bits now.value) now.memory _ c.flag_after-flag.ensures w.0 c.note_shown.ensures)

@@ -1,7 +1,6 @@
 -- `samples` meets its contract, by the bus. Assumes nothing.
 use mathlib.Core.Path.{sym, ◌∙◌}
 use Rattle.samples.proofs.SamplesLaws.{three, none_unpowered}
-use borrow.Author.Rules.{rules}
 use Rattle.steps.proofs.consecutive.samples.Goals as goal
 
 pub returns-in-Unpowered-clause-progress : goal.returns-in-Unpowered-clause-progress

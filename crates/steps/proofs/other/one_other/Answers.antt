@@ -1,8 +1,7 @@
 -- `one_other` meets its contract, by what is read and by the number. Assumes nothing.
 use mathlib.Core.Path.{sym, ◌∙◌}
 use native.Mathlib.Omega.{arith}
-use borrow.Author.Rules.{rules}
-use borrow.Author.Tests.{eq-eqb, ne_eqb}
+use borrow.Author.Tests.{eq-eqb}
 use lib.ListN.{drop, length-drop}
 use Rattle.trace.proofs.ReadLaws.{taken_within, place_within}
 use Rattle.samples.proofs.SamplesLaws.{tail_part}
