@@ -1,10 +1,12 @@
 // A program that takes standard input as a trace and runs it on a part: reads, shows, prints.
 #![tactic(auto)]
+
 ghost use Rattle.std.specs.Prelude.{◌≡◌};
 ghost use Rattle.report.specs.Report.{memory_after_run};
 
 // the descriptors of standard input and output
 const STDIN_FILENO: i32 = 0;
+
 const STDOUT_FILENO: i32 = 1;
 
 // Prints the answers of the accepted events, then number, count and offset on a line of their own.

@@ -15,7 +15,7 @@ use Rattle.ledger.specs.Steps.{Step, sample, expected, entry_of, followed}
 use Rattle.ledger.specs.I2cLedger.{Clock, Item, idle, span, items_on_edge, Wires, wires_at, edge_between, last_wires, items}
 use Rattle.ledger.specs.I2cAnswers.{LastFall, fall_on, last_fall}
 use Rattle.ledger.specs.I2cAnswers as Answers
-use Rattle.ledger.specs.Spans.{sample_byte, wires_seen, Start, Stop, Neither, AllNeither, clocks_after, last_fall_after}
+use Rattle.ledger.specs.Spans.{sample_byte, wires_seen, Start, Stop, AllNeither, clocks_after, last_fall_after}
 
 -- a sample has the levels that its byte is made of
 levels_of_lem : (l : Levels) → levels_of (sample_byte l) ≡ l

@@ -14,7 +14,7 @@ use Rattle.selection.proofs.LevelLaws.{levels_back}
 use Rattle.ledger.specs.History.{Entry}
 use Rattle.ledger.specs.Steps.{Step, sample, expected, entry_of, followed}
 use Rattle.ledger.specs.SpiLedger.{unended, ended, Item, power_off, selection, items_on_edge, last_sample, items, asleep}
-use Rattle.ledger.specs.SpiAnswers.{LastFall, no_fall, after_rises, fall_on, last_fall}
+use Rattle.ledger.specs.SpiAnswers.{LastFall, after_rises, fall_on, last_fall}
 use Rattle.ledger.specs.Selections.{sample_byte, AllSelected, levels_seen, counted_bits, last_fall_after}
 
 -- a sample has the levels that its byte is made of

@@ -1,6 +1,6 @@
 -- A span in a history, by SCL, SDA and the answers: what the sentences on START, STOP and the bits at rises of SCL say of any samples.
 -- Histories and lists of steps have the latest first.
-use Rattle.std.specs.Prelude.{ℕ, ◌+◌, ◌*◌, ◌≡◌, Bool, true, false, cond, not, ◌&&◌, List, [], ◌∷◌, ◌++◌}
+use Rattle.std.specs.Prelude.{ℕ, ◌+◌, ◌*◌, ◌≡◌, true, false, cond, not, ◌&&◌, List, [], ◌∷◌, ◌++◌}
 use Rattle.parts.specs.Status.{bit}
 use Rattle.transfer.specs.declared.levels.Levels.{Levels}
 use Rattle.ledger.specs.Steps.{Step, sample, expected, last_seen}

@@ -1,5 +1,4 @@
 -- `replay_made` meets its contract, by whether the making is accepted. Assumes nothing.
-use borrow.Author.Rules.{rules}
 use Rattle.made.proofs.MadeLaws.{made_ran, made_refused}
 use Rattle.made.proofs.replay_made.Goals as goal
 

@@ -1,8 +1,6 @@
 -- `number` meets its contract, test by test. Assumes nothing.
 use mathlib.Core.Path.{sym, ◌∙◌}
 use native.Mathlib.Omega.{arith}
-use borrow.Author.Rules.{rules}
-use borrow.Author.Tests.{not-true, not-false}
 use Rattle.image.proofs.TakenLaws.{taken_long, known_part}
 use Rattle.call_ends.proofs.OpenLaws.{short_result, not_an_image, sized, other_size}
 use Rattle.call_ends.proofs.open.number.Goals as goal

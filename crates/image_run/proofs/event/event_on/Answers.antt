@@ -1,8 +1,7 @@
 -- `event_on` meets its contract: by the fields of the image, without bytes, or as a run of one. Assumes nothing.
 use native.Mathlib.Omega.{arith}
-use borrow.Author.Rules.{rules}
 use Rattle.image.proofs.TakenLaws.{taken_long}
-use Rattle.image_run.proofs.EventLaws.{small_step, step_gave, empty_gave, run_gave}
+use Rattle.image_run.proofs.EventLaws.{small_step, empty_gave, run_gave}
 use Rattle.image_run.proofs.event.event_on.Goals as goal
 
 pub put_fields-requires : goal.put_fields-requires

@@ -1,7 +1,5 @@
 -- `expected_on` meets its contract: the present answer by the bus, or nothing. Assumes nothing.
 use mathlib.Core.Path.{◌∙◌}
-use borrow.Author.Rules.{rules}
-use Rattle.image_sample.proofs.FieldLaws.{left_undone}
 use Rattle.image_run.proofs.ExpectedLaws.{spi_held, i2c_held}
 use Rattle.image_run.proofs.expected.expected_on.Goals as goal
 

@@ -1,8 +1,6 @@
 -- `on_fields` meets its contract: a sample in range and an expected answer are what the fields give, and of anything else nothing is said.
 -- Assumes nothing.
-use borrow.Author.Rules.{rules}
 use Rattle.image.proofs.TakenLaws.{taken_long, taken_fields, known_part}
-use Rattle.image_sample.proofs.FieldLaws.{left_undone}
 use Rattle.image_run.proofs.ExpectedLaws.{expected_told}
 use Rattle.image_run.proofs.SampleLaws.{ready, spi_told, i2c_told}
 use Rattle.image_run.proofs.fields.on_fields.Goals as goal

@@ -1,11 +1,9 @@
 -- `run_on` meets its contract: the run of the image's state, and the image of the state that it reached. Assumes nothing.
-use borrow.Author.Rules.{rules}
 use Rattle.runs.specs.Run.{loop_of}
 use Rattle.runs.proofs.RunRule.{loop_sound}
 use Rattle.image.specs.Taken.{state_of}
 use Rattle.image.proofs.TakenLaws.{taken_long}
 use Rattle.calls.proofs.InRange.{sound_range}
-use Rattle.image_run.proofs.RunLaws.{image_reached}
 use Rattle.image_run.proofs.run.run_on.Goals as goal
 
 pub state_of-model-requires : goal.state_of-model-requires

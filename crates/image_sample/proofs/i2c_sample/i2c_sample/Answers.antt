@@ -1,7 +1,5 @@
 -- `i2c_sample` meets its contract, by the edge between the samples. Assumes nothing.
-use Rattle.image_sample.proofs.FieldLaws.{left_undone}
 use Rattle.image_sample.proofs.I2cLaws.{fall_ready, rise_ready, start, stop, rise, fall, quiet}
-use borrow.Author.Rules.{rules}
 use Rattle.image_sample.proofs.i2c_sample.i2c_sample.Goals as goal
 
 pub rise-requires : goal.rise-requires

@@ -1,7 +1,5 @@
 -- `spi_sample` meets its contract, by the edge between the samples. Assumes nothing.
-use Rattle.image_sample.proofs.FieldLaws.{left_undone}
 use Rattle.image_sample.proofs.SpiLaws.{ready, fall_ready, rise_ready, select, deselect, rise, fall, quiet}
-use borrow.Author.Rules.{rules}
 use Rattle.image_sample.proofs.spi_sample.spi_sample.Goals as goal
 
 pub early-requires : goal.early-requires

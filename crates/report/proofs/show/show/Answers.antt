@@ -1,8 +1,6 @@
 -- `show` meets its contract, by the law of what is shown of a run. Assumes nothing.
 use mathlib.Core.Path.{◌∙◌}
 use native.Mathlib.Omega.{arith}
-use borrow.Author.Rules.{rules}
-use borrow.Author.Tests.{lt-ltb}
 use Rattle.report.proofs.ShowLaws.{Shown, shown}
 use Rattle.report.proofs.show.show.Goals as goal
 use Rattle.report.proofs.show.show.Goals.{After-replay_made-ran}

@@ -1,12 +1,9 @@
 -- `write_text` meets its contract, by the laws of the text: what is left of it, stored from here on, gives the whole. Assumes nothing.
 use Prim.Native.Nat.{◌+◌, ◌*◌, ◌-◌, ◌<◌, ◌≤◌}
-use mathlib.Core.Path.{◌≡◌, refl, sym, ◌∙◌}
-use native.Mathlib.Omega.{arith}
-use borrow.Author.Rules.{rules}
-use lib.ListN.{length, drop, get_or}
+use mathlib.Core.Path.{◌≡◌}
+use lib.ListN.{length, drop}
 use lib.Seq.{sets}
 use Rattle.report.specs.Text.{text}
-use Rattle.report.proofs.TextLaws.{piece_short, text_over, length_on, sets_on}
 use Rattle.report.proofs.text.write_text.Given as goal
 
 abbrev pub invariant-loop-i : goal.invariant-loop-i

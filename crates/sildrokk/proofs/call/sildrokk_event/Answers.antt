@@ -1,6 +1,5 @@
 -- `sildrokk_event` meets its contract: refused at its beginning, or the event on the image's state. Assumes nothing.
 use native.Mathlib.Omega.{arith}
-use borrow.Author.Rules.{rules}
 use Rattle.sildrokk.proofs.CallLaws.{event_refused, begun, begun_taken, event_done}
 use Rattle.sildrokk.proofs.call.sildrokk_event.Goals as goal
 

@@ -1,5 +1,4 @@
 -- `sildrokk_make` meets its contract: refused by its numbers, then by the buffer's length, or written. Assumes nothing.
-use borrow.Author.Rules.{rules}
 use Rattle.calls.proofs.InRange.{make_range}
 use Rattle.sildrokk.proofs.MakeLaws.{making_refused, making_short, making_done}
 use Rattle.sildrokk.proofs.call.sildrokk_make.Goals as goal

@@ -1,6 +1,5 @@
 -- `sildrokk_replay` meets its contract: refused at its beginning, or the run of the image's state. Assumes nothing.
 use native.Mathlib.Omega.{arith}
-use borrow.Author.Rules.{rules}
 use Rattle.sildrokk.proofs.CallLaws.{run_refused, begun, begun_taken, run_done}
 use Rattle.sildrokk.proofs.call.sildrokk_replay.Goals as goal
 

@@ -1,5 +1,4 @@
 -- `sildrokk_run` meets its contract: the run that gives back answers, lent one byte for them. Assumes nothing.
-use borrow.Author.Rules.{rules}
 use Rattle.sildrokk.proofs.CallLaws.{without_answers}
 use Rattle.sildrokk.proofs.call.sildrokk_run.Goals as goal
 

@@ -2,7 +2,6 @@
 use native.Mathlib.Omega.{arith}
 use mathlib.Core.Bool.{not}
 use lib.Dec.{eqb}
-use borrow.Author.Rules.{rules}
 use Rattle.image.proofs.TakenLaws.{taken_long}
 use Rattle.sildrokk.proofs.CallLaws.{select_refused, begun, begun_taken, after_passes, select_done}
 use Rattle.sildrokk.proofs.call.sildrokk_select.Goals as goal
