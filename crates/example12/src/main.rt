@@ -1,5 +1,6 @@
 // Example 12 of document 01: RDID on MR45V200B, part 2, with an expected answer after each of 24 falls and of eight more.
 #![tactic(auto)]
+
 fn zeros() -> [u8; 262144] {
     [0; 262144]
 }
