@@ -1,8 +1,8 @@
 /*
  * A host in C that holds one chip: MR45V032A gets one enable and two writes, is read back, loses power, and the host tells what the
- * memory holds and why. From the folder above, once `rt staticlib sildrokk` has written the archive:
+ * memory holds and why. From the folder above, once `rt lib` in crates/sildrokk has written the archive:
  *
- *   cc -std=c99 -I include -o host examples/host.c target/staticlib/libsildrokk.a && ./host
+ *   cc -std=c99 -I include -o host examples/host.c crates/sildrokk/out/libsildrokk.a && ./host
  */
 
 #include "sildrokk.h"

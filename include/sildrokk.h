@@ -1,7 +1,7 @@
 /*
  * Sildrokk for C: a bench model of five FeRAM parts that plays the chip at its pins.
  *
- * Link target/staticlib/libsildrokk.a, which `rt staticlib sildrokk` proves and writes (x86-64, Linux).
+ * Link crates/sildrokk/out/libsildrokk.a, which `rt lib` in crates/sildrokk proves and writes (x86-64, Linux).
  *
  * The host holds each model itself: a state of 32 bytes and a memory as long as the part's. Making
  * writes a state; every other call takes it, and leaves the next one in its place:

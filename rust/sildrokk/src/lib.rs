@@ -51,9 +51,9 @@
 //! assert!(!chip.powered());
 //! ```
 //!
-//! The archive to link is found by the build script, in `target/staticlib` of the repository or in the
-//! folder that the environment names as `SILDROKK_LIB`; it says which command writes it. The binary is
-//! for x86-64 and Linux.
+//! The archive to link is found by the build script, in `crates/sildrokk/out` of the repository or in
+//! the folder that the environment names as `SILDROKK_LIB`; it says which command writes it. The binary
+//! is for x86-64 and Linux.
 
 #![deny(unsafe_code)]
 #![warn(missing_debug_implementations)]

@@ -32,6 +32,7 @@ pub mod streams;
 pub mod tally;
 pub mod told;
 pub mod tried;
+pub mod unread;
 pub mod waits;
 
 pub use twin::{Ran, Selected};

@@ -12,6 +12,7 @@ use drive::held::Pair;
 use drive::lengths::LENGTHS;
 use drive::mixed::Mixed;
 use drive::tried::{self, Memories};
+use drive::unread::make_unread;
 use drive::{bad, bad_bytes, good_makings, lengths, reached, Making};
 use sildrokk::calls::{self, STATE};
 use std::fmt::Display;
@@ -111,29 +112,33 @@ fn makings() -> Result<(), String> {
         for length in LENGTHS {
             let made = make_unread(making, length);
             let same = match &made {
-                Ok(state) => number == 0 && drive::made(making) == state,
+                Ok(state) => number == 0 && **state == drive::made(making),
                 Err(refusal) => *refusal == lengths::of_making(number, length),
             };
             if !same {
                 return Err(format!("{making}: {made:02x?} in a buffer never written"));
             }
         }
+        let made = made_unread(making);
+        let same = match &made {
+            Ok(state) => number == 0 && drive::made(making) == state,
+            Err(refusal) => *refusal == number,
+        };
+        if !same {
+            return Err(format!("{making}: {made:02x?} on a stack never written"));
+        }
     }
     Ok(())
 }
 
-/// A making into a buffer of this length that nothing was written to before, so that valgrind tells if
-/// it reads it, or if bytes of the state are used that it has not written. The number if it is refused.
+/// A making by the crate, which has the state on the stack, where nothing was written to it before either.
 ///
 /// Never inlined: valgrind takes the stack for unwritten where a function begins, and not where a loop
 /// comes back to the place of the state before.
 #[inline(never)]
-fn make_unread(making: Making, length: usize) -> Result<[u8; STATE], u8> {
+fn made_unread(making: Making) -> Result<[u8; STATE], u8> {
     let Making { part, pins, bits } = making;
-    match length {
-        STATE => calls::made(part, pins, bits),
-        other => Err(making.make((&mut *Box::new_uninit_slice(other)).into())),
-    }
+    calls::made(part, pins, bits)
 }
 
 /// An image of each phase of a part with each byte changed, which mostly makes it none, and cut to each
