@@ -15,9 +15,9 @@ use Rattle.parts.specs.declared.status.Status.{Status}
 use Rattle.parts.specs.Numbers.{answer_number}
 use Rattle.parts.specs.Status.{protected_start}
 use Rattle.parts.specs.Table.{part_of}
-use Rattle.serial.specs.declared.write.Write.TheVariants.{Nothing, Byte}
+use Rattle.std.specs.Prelude.{None}
 use Rattle.serial.specs.Bits.{bit_at}
-use Rattle.serial.specs.Write.{applied}
+use Rattle.serial.specs.Write.{applied, write_at}
 use Rattle.selection.specs.declared.opcode.Command.{Command}
 use Rattle.selection.specs.declared.opcode.Command.TheVariants.{WREN, WRDI, RDSR, WRSR, READ, WRITE, FSTRD, RDID, SLEEP, Unknown}
 use Rattle.selection.specs.declared.phase.Field.{Field}
@@ -110,12 +110,12 @@ set_bytes (x ∷ m) zero v fits h (suc i) = fits (suc i)
 set_bytes (x ∷ m) (suc a) v fits h zero = fits zero
 set_bytes (x ∷ m) (suc a) v fits h (suc i) = set_bytes m a v (λ k. fits (suc k)) h i
 
-permitted_bytes : (t : Bool) (a v : ℕ) (m : List ℕ) → AllBytes m → v < 256 → AllBytes (applied (cond t (Byte a v) Nothing) m)
+permitted_bytes : (t : Bool) (a v : ℕ) (m : List ℕ) → AllBytes m → v < 256 → AllBytes (applied (cond t (write_at a v) None) m)
 permitted_bytes true a v m fits h = set_bytes m a v fits h
 permitted_bytes false a v m fits h = fits
 
 -- what is written as a byte ends: nothing on a part that stores late (y)
-finished_bytes : (y t : Bool) (a v : ℕ) (m : List ℕ) → AllBytes m → v < 256 → AllBytes (applied (cond y Nothing (cond t (Byte a v) Nothing)) m)
+finished_bytes : (y t : Bool) (a v : ℕ) (m : List ℕ) → AllBytes m → v < 256 → AllBytes (applied (cond y None (cond t (write_at a v) None)) m)
 finished_bytes true t a v m fits h = fits
 finished_bytes false t a v m fits h = permitted_bytes t a v m fits h
 

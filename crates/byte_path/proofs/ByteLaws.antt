@@ -14,6 +14,7 @@ use Rattle.parts.specs.declared.status.Status.{Status}
 use Rattle.parts.specs.Numbers.{answer_number, level_of}
 use Rattle.parts.specs.Status.{bit, status_byte}
 use Rattle.parts.specs.Table.{part_of}
+use Rattle.std.specs.Prelude.{None}
 use Rattle.serial.specs.Bits.{shifted, bit_at}
 use Rattle.serial.specs.Write.{applied}
 use Rattle.serial.proofs.BitLaws.{bit_small}
@@ -24,7 +25,6 @@ use Rattle.selection.specs.declared.phase.Phase.TheVariants.{Rest, Ignoring, Tak
 use Rattle.selection.specs.declared.phase.Source.{Source}
 use Rattle.selection.specs.declared.phase.Source.TheVariants.{Memory, Register, Identity}
 use Rattle.selection.specs.Phase.{width, phase_after_field}
-use Rattle.serial.specs.declared.write.Write.TheVariants.{Nothing}
 use Rattle.spi.specs.Store.{field_write}
 use Rattle.byte_path.specs.PinPath.{bits_of, back_bit, back_from, driven_in, back_of}
 use Rattle.byte_path.specs.ByBytes.{AtBorder, phase_after_byte, field_stores, byte_write, undriven, source_back, byte_back}
@@ -130,7 +130,7 @@ module _ (part pins : ℕ) (st : Status) (z wp : Bool) where
     field_answers (b ∷ c ∷ bs) n w m room =
         rw (lt-ltb (n + 1) (width row f) (omega arith)) (ap (λ (l : List ℕ). 2 ∷ l) (field_answers (c ∷ bs) (n + 1) (shifted w b) _ (omega arith)))
 
-    field_memory_lem : ((k v : ℕ) (x : Bool) → field_write row st f k v x ≡ Nothing) → (bs : List Bool) (n w : ℕ) (m : List ℕ) → n + length bs ≤ width row f
+    field_memory_lem : ((k v : ℕ) (x : Bool) → field_write row st f k v x ≡ None) → (bs : List Bool) (n w : ℕ) (m : List ℕ) → n + length bs ≤ width row f
         → memory_bits part pins st z wp (Taking f n w) m bs ≡ m
     field_memory_lem still [] n w m room = refl
     field_memory_lem still (b ∷ []) n w m room = rw (still n w b)
@@ -138,7 +138,7 @@ module _ (part pins : ℕ) (st : Status) (z wp : Bool) where
         rw (still n w b, lt-ltb (n + 1) (width row f) (omega arith)) (field_memory_lem still (c ∷ bs) (n + 1) (shifted w b) m (omega arith))
 
     -- a byte of a field that is no data byte
-    field_stepped : ((k v : ℕ) (x : Bool) → field_write row st f k v x ≡ Nothing) → ((v : ℕ) → field_stores row st f v ≡ Nothing)
+    field_stepped : ((k v : ℕ) (x : Bool) → field_write row st f k v x ≡ None) → ((v : ℕ) → field_stores row st f v ≡ None)
         → (n w v : ℕ) (m : List ℕ) → v < 256 → n + 8 ≤ width row f → Stepped (Taking f n w) m v (bits_of v)
     field_stepped still none n w v m h room =
         record {

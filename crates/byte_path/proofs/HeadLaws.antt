@@ -4,12 +4,12 @@ use Prim.Native.Nat.{ℕ, zero, suc, ◌+◌, ◌*◌, ◌%◌, ◌^◌, ◌<◌
 use mathlib.Core.Path.{◌≡◌, refl, sym, ap, ◌∙◌}
 use mathlib.Core.Bool.{Bool, true, false, cond}
 use mathlib.Core.List.{List, [], ◌∷◌, ◌++◌}
-use native.Mathlib.Nat.{pow-le-pow_right, zero-add, add-zero}
+use native.Mathlib.Nat.{pow-le-pow_right, add-zero}
 use native.Mathlib.Numerals.{add-one}
 use native.Mathlib.Omega.{arith}
 use lib.Dec.{ltb}
 use lib.ListN.{length, get_or, set, drop, replicate}
-use lib.Seq.{drop-cons, drop-nil}
+use lib.Seq.{drop-cons}
 use borrow.Author.Tests.{ltb-true}
 use Rattle.parts.specs.declared.part.Part.{Part}
 use Rattle.serial.proofs.AddressLaws.{next_within}
@@ -90,9 +90,6 @@ module _ (p : Part) where
 -- ---- the head, byte by byte
 
 module _ (p : Part) (input : List ℕ) where
-  pub head_start : (h : Head) → ahead 0 h ≡ h
-  head_start h = rw (zero-add h.at)
-
   ahead_on : (n : ℕ) (h : Head) → ahead n (ahead 1 h) ≡ ahead (suc n) h
   ahead_on n h = let q : n + (1 + h.at) ≡ suc n + h.at = omega arith in rw q
 
@@ -112,15 +109,6 @@ module _ (p : Part) (input : List ℕ) where
   pub head_over : (ph : Phase) (at : ℕ) (vs : List ℕ) → is_head ph ≡ false → record { phase = ph; at = at } ≡ ahead at (head_from p ph vs)
   head_over ph at [] n = sym (here ph at)
   head_over ph at (v ∷ vs) n = rw n (sym (here ph at))
-
-  -- no byte left
-  pub head_end : (ph : Phase) (at : ℕ) → length input ≤ at → record { phase = ph; at = at } ≡ ahead at (head_from p ph (drop at input))
-  head_end ph at l = rw (drop_past input at l) (sym (here ph at))
-    where
-      drop_past : (vs : List ℕ) (n : ℕ) → length vs ≤ n → drop n vs ≡ []
-      drop_past [] n l = drop-nil n
-      drop_past (v ∷ vs) zero l = absurd (omega arith)
-      drop_past (v ∷ vs) (suc n) l = drop_past vs n (omega arith)
 
 -- ---- what the head brings back
 

@@ -1,12 +1,11 @@
 -- The same byte by byte: what a whole byte makes of the phase at a byte's border, what it stores, and what comes back.
-use Rattle.std.specs.Prelude.{ℕ, ◌+◌, ◌*◌, ◌%◌, ◌^◌, ◌<◌, ◌≡◌, Bool, true, false, cond, List, [], ◌∷◌, ltb, get_or}
+use Rattle.std.specs.Prelude.{ℕ, ◌+◌, ◌*◌, ◌%◌, ◌^◌, ◌<◌, ◌≡◌, Bool, true, false, cond, List, [], ◌∷◌, ltb, get_or, None, Option}
 use Rattle.parts.specs.declared.answer.Answer.TheVariants.{HighZ}
 use Rattle.parts.specs.declared.part.Part.{Part}
 use Rattle.parts.specs.declared.status.Status.{Status}
 use Rattle.parts.specs.Status.{status_byte}
 use Rattle.parts.specs.Table.{part_of}
 use Rattle.serial.specs.declared.write.Write.{Write}
-use Rattle.serial.specs.declared.write.Write.TheVariants.{Nothing}
 use Rattle.serial.specs.Address.{next_address}
 use Rattle.serial.specs.Write.{applied}
 use Rattle.selection.specs.declared.levels.Levels.{Levels}
@@ -45,22 +44,22 @@ phase_after_byte p (Waiting a) v = Waiting a
 phase_after_byte p (Pending w a) v = Pending v (next_address p.size a)
 
 -- a data byte of WRITE is stored, if it is permitted, unless it waits
-abbrev pub field_stores : Part → Status → Field → ℕ → Write
-field_stores p st Opcode v = Nothing
-field_stores p st ReadAddress v = Nothing
-field_stores p st FastAddress v = Nothing
-field_stores p st WriteAddress v = Nothing
-field_stores p st (Dummy a) v = Nothing
+abbrev pub field_stores : Part → Status → Field → ℕ → Option Write
+field_stores p st Opcode v = None
+field_stores p st ReadAddress v = None
+field_stores p st FastAddress v = None
+field_stores p st WriteAddress v = None
+field_stores p st (Dummy a) v = None
 field_stores p st (Data a w) v = finished_write p st a v
-field_stores p st StatusByte v = Nothing
+field_stores p st StatusByte v = None
 
 -- a data byte that waits is stored as the next one begins
-abbrev pub byte_write : Part → Status → Phase → ℕ → Write
-byte_write p st Rest v = Nothing
-byte_write p st Ignoring v = Nothing
+abbrev pub byte_write : Part → Status → Phase → ℕ → Option Write
+byte_write p st Rest v = None
+byte_write p st Ignoring v = None
 byte_write p st (Taking f n w) v = field_stores p st f v
-byte_write p st (Showing s k) v = Nothing
-byte_write p st (Waiting a) v = Nothing
+byte_write p st (Showing s k) v = None
+byte_write p st (Waiting a) v = None
 byte_write p st (Pending w a) v = permitted p st a w
 
 -- nothing driven: every bit is 1

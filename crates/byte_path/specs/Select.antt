@@ -5,12 +5,10 @@ use Rattle.parts.specs.declared.refusal.Refusal.{Refusal}
 use Rattle.parts.specs.declared.refusal.Refusal.TheVariants.{UnknownKind, NotDeselected, BufferLength}
 use Rattle.parts.specs.Numbers.{refusal_number}
 use Rattle.parts.specs.Table.{is_spi, part_of}
-use Rattle.chip.specs.declared.check.Verdict.{Verdict}
-use Rattle.chip.specs.declared.check.Verdict.TheVariants.{Passed, Failed}
 use Rattle.chip.specs.declared.model.BusState.{BusState}
 use Rattle.chip.specs.declared.model.BusState.TheVariants.{Unpowered, SpiOn, I2cOn}
 use Rattle.chip.specs.declared.model.Model.{Model}
-use Rattle.chip.specs.Check.{check_of}
+use Rattle.chip.specs.Check.{check_of, Verdict, Passed, Failed}
 use Rattle.byte_path.specs.PinPath.{bytes_of, first_driven, driven_count, Selection, selection_of}
 
 -- all that it gives: number or 0, state, memory, the buffer, the index of the first driven byte and how many are driven

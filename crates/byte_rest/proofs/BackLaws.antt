@@ -3,22 +3,25 @@
 use Prim.Native.Nat.{ℕ, zero, suc, ◌+◌, ◌-◌, ◌<◌, ◌≤◌, min}
 use mathlib.Core.Path.{◌≡◌, refl, sym, ap, ◌∙◌}
 use mathlib.Core.Bool.{Bool, true, false, cond}
-use mathlib.Core.List.{List, ◌∷◌, ◌++◌, append-nil}
+use mathlib.Core.List.{List, ◌∷◌, ◌++◌}
 use native.Mathlib.Numerals.{add-one}
 use native.Mathlib.Omega.{arith}
 use lib.Dec.{ltb, eqb}
 use lib.ListN.{length, take, get_or, set, replicate}
-use lib.Seq.{take-suc-set, append_snoc, take_all}
+use lib.Seq.{take-suc-set, append_snoc}
 use borrow.Author.Tests.{ltb-true, ltb-false, eq-eqb, ne_eqb}
 use Rattle.parts.specs.declared.part.Part.{Part}
 use Rattle.parts.specs.declared.status.Status.{Status}
 use Rattle.parts.specs.Status.{status_byte}
 use Rattle.serial.specs.Address.{next_address}
 use Rattle.rolled_read.specs.Rolled.{rolled_from}
+use Rattle.selection.specs.declared.phase.Phase.{Phase}
+use Rattle.selection.specs.declared.phase.Phase.TheVariants.{Rest, Ignoring, Taking, Showing, Waiting, Pending}
+use Rattle.selection.specs.declared.phase.Source.{Source}
 use Rattle.selection.specs.declared.phase.Source.TheVariants.{Memory, Register, Identity}
 use Rattle.byte_path.specs.PinPath.{Back, bytes_of, first_driven, driven_count}
 use Rattle.byte_path.specs.ByBytes.{undriven}
-use Rattle.byte_rest.specs.Rest.{shown_from, identity_from}
+use Rattle.byte_rest.specs.Rest.{shown_from, rest_back, identity_from}
 
 -- ---- after n bytes that are not driven
 
@@ -49,20 +52,14 @@ pub all_quiet_bytes : (n : ℕ) → bytes_of (replicate n undriven) ≡ replicat
 all_quiet_bytes zero = refl
 all_quiet_bytes (suc n) = ap (λ (l : List ℕ). 255 ∷ l) (all_quiet_bytes n)
 
--- n of k bytes first
-split : (n k : ℕ) → n ≤ k → replicate {A = ℕ} k 255 ≡ replicate n 255 ++ replicate (k - n) 255
-split zero k h = let all : k - 0 ≡ k = omega arith in rw all
-split (suc n) zero h = absurd (omega arith)
-split (suc n) (suc k) h = ap (λ (l : List ℕ). 255 ∷ l) (split n k (omega arith) ∙ rw (sub_suc k n))
-  where
-    sub_suc : (a b : ℕ) → suc a - suc b ≡ a - b
-    sub_suc a b = omega arith
-
--- a buffer filled whole: its head as it was, and after it bytes that are not driven
-pub quiet_over : (out new : List ℕ) (n r : ℕ) → n ≤ length out → take n out ≡ replicate n 255 → new ≡ replicate (length out) 255 → r ≡ 0
-    → (new ≡ take n out ++ bytes_of (replicate (length out - n) undriven)) × (r ≡ driven_count (replicate (length out - n) undriven))
-quiet_over out new n r h e q z =
-    (q ∙ split n (length out) h ∙ rw (e, all_quiet_bytes (length out - n)), z ∙ sym (all_quiet (length out - n)).count)
+-- where nothing is shown
+pub quiet_rest : (p : Part) (st : Status) (m : List ℕ) (ph : Phase) (n : ℕ) → ((s : Source) (k : ℕ) → ph ≡ Showing s k → ⊥) → rest_back p st m ph n ≡ replicate n undriven
+quiet_rest p st m Rest n h = refl
+quiet_rest p st m Ignoring n h = refl
+quiet_rest p st m (Taking f k v) n h = refl
+quiet_rest p st m (Showing s k) n h = absurd (h s k refl)
+quiet_rest p st m (Waiting a) n h = refl
+quiet_rest p st m (Pending w a) n h = refl
 
 module _ (p : Part) (st : Status) (m : List ℕ) where
   pub memory_bytes : length m ≡ p.size → (n a : ℕ) → bytes_of (shown_from p st m (Memory a) n) ≡ rolled_from m a n
@@ -145,8 +142,3 @@ pub identity_on : (id out : List ℕ) (at i size : ℕ) → at < length out → 
 identity_on id out at i size h k =
     let one : size - at ≡ suc (size - (at + 1)) = omega arith in
     rw (one, add-one, take-suc-set, append_snoc)
-
-pub identity_over : (id out : List ℕ) (at i size : ℕ) → length out ≤ at → size ≤ at → take at out ++ identity_from id i (size - at) ≡ out
-identity_over id out at i size h k =
-    let none : size - at ≡ 0 = omega arith in
-    rw (none, append-nil, take_all)

@@ -12,10 +12,10 @@ use lib.ListN.{length, drop, set, replicate, length-set}
 use Rattle.parts.specs.declared.part.Part.{Part}
 use Rattle.parts.specs.declared.status.Status.{Status}
 use Rattle.parts.specs.Status.{protected_start, with_wel}
+use Rattle.std.specs.Prelude.{None, Option}
 use Rattle.serial.specs.Address.{next_address}
 use Rattle.serial.specs.declared.write.Write.{Write}
-use Rattle.serial.specs.declared.write.Write.TheVariants.{Nothing, Byte}
-use Rattle.serial.specs.Write.{applied}
+use Rattle.serial.specs.Write.{applied, write_at}
 use Rattle.rolled_write.specs.Written.{written_from}
 use Rattle.selection.specs.declared.phase.Action.{Action}
 use Rattle.selection.specs.declared.phase.Field.{Field}
@@ -134,7 +134,7 @@ module _ (p : Part) (st : Status) where
   unfolding protected_start
   kept_stored true e a v m = rw e (by (ltb a (protected_start st p)))
     where
-      by : (t : Bool) → applied (cond t (Byte a v) Nothing) m ≡ cond t (set m a v) m
+      by : (t : Bool) → applied (cond t (write_at a v) None) m ≡ cond t (set m a v) m
       by true = refl
       by false = refl
   kept_stored false e a v m = rw e
@@ -169,15 +169,15 @@ module _ (p : Part) (st : Status) where
   after_data : (t : Bool) (a v : ℕ) → p.late ≡ t → phase_after_data p a v ≡ cond t (Pending v a) (Taking (data_after p a) 0 0)
   after_data t a v q = ap (λ (x : Bool). cond x (Pending v a) (Taking (data_after p a) 0 0)) q
 
-  written_then : (t : Bool) (a v : ℕ) → p.late ≡ t → finished_write p st a v ≡ cond t Nothing (permitted p st a v)
-  written_then t a v q = ap (λ (x : Bool). cond x Nothing (permitted p st a v)) q
+  written_then : (t : Bool) (a v : ℕ) → p.late ≡ t → finished_write p st a v ≡ cond t None (permitted p st a v)
+  written_then t a v q = ap (λ (x : Bool). cond x None (permitted p st a v)) q
 
   -- one data byte, and those after it
   data_next : (t : Bool) → p.late ≡ t → (a v : ℕ) (y : Bool) (vs m : List ℕ)
       → memory_ended (Taking (Data a y) 0 0) m (v ∷ vs)
-      ≡ memory_ended (cond t (Pending v a) (Taking (data_after p a) 0 0)) (applied (cond t Nothing (permitted p st a v)) m) vs
+      ≡ memory_ended (cond t (Pending v a) (Taking (data_after p a) 0 0)) (applied (cond t None (permitted p st a v)) m) vs
   data_next t q a v y vs m =
-      ap₂ (λ (ph : Phase) (x : Write). memory_ended ph (applied x m) vs)
+      ap₂ (λ (ph : Phase) (x : Option Write). memory_ended ph (applied x m) vs)
       (ap (phase_after_data p a) (zero-add v) ∙ after_data t a v q) (written_then t a v q)
 
   data_memory : (late w : Bool) → p.late ≡ late → st.wel ≡ w → (vs : List ℕ) (a : ℕ) (y : Bool) (m : List ℕ) → length m ≡ p.size
@@ -354,7 +354,7 @@ module _ (p : Part) (st : Status) where
 
   -- ---- the head brings nothing back and stores nothing
 
-  head_quiet : (ph : Phase) (v : ℕ) (m : List ℕ) → is_head ph ≡ true → (byte_back p st m ph ≡ undriven) × (byte_write p st ph v ≡ Nothing)
+  head_quiet : (ph : Phase) (v : ℕ) (m : List ℕ) → is_head ph ≡ true → (byte_back p st m ph ≡ undriven) × (byte_write p st ph v ≡ None)
   head_quiet Rest v m h = absurd (false≢true h)
   head_quiet Ignoring v m h = absurd (false≢true h)
   head_quiet (Taking Opcode n w) v m h = (refl, refl)
@@ -432,8 +432,3 @@ module _ (p : Part) (st : Status) where
             settled = λ u. h.settled (head_settled ph v e);
           }
       by false e h = record { back = refl; memory = refl; phase = refl; within = omega arith; bordered = b; over = λ l. e; settled = λ u. u }
-
--- what is chosen by a test that holds
-pub chosen : (t : Bool) (x y : List ℕ) → t ≡ true → x ≡ cond t x y
-chosen true x y e = refl
-chosen false x y e = absurd (false≢true e)

@@ -16,21 +16,20 @@ fn write(res: &mut [u8], first: u64, second: u64, third: u64)
 pub fn write_event(res: &mut [u8], answer: u8, flag: bool)
     ensures { res.new ≡ event_result answer flag res.old }
 {
-    let bytes = 0x100000000000000 * answer as u64
-        + 0x1000000000000 * parts::status::bit_of(flag) as u64;
+    let bytes = u64::from_be_bytes([answer, u8::from(flag), 0, 0, 0, 0, 0, 0]);
     write(res, bytes, 0, 0);
 }
 
 // Count, offset and flag offset of a run.
-pub fn write_run(res: &mut [u8], count: u64, offset: u64, flag: u64)
+pub fn write_run(res: &mut [u8], count: usize, offset: usize, flag: usize)
     ensures { res.new ≡ run_result count offset flag res.old }
 {
-    write(res, count, offset, flag);
+    write(res, count as u64, offset as u64, flag as u64);
 }
 
 // First and count of a selection as bytes.
-pub fn write_select(res: &mut [u8], first: u64, count: u64)
+pub fn write_select(res: &mut [u8], first: usize, count: usize)
     ensures { res.new ≡ select_result first count res.old }
 {
-    write(res, first, count, 0);
+    write(res, first as u64, count as u64, 0);
 }

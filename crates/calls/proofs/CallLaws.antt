@@ -13,7 +13,7 @@ use Rattle.chip.specs.declared.model.Model.{Model}
 use Rattle.byte_path.specs.Select.{select_of}
 use Rattle.runs.specs.Event.{event_of}
 use Rattle.runs.specs.Run.{run_of}
-use Rattle.model.specs.declared.make.Made.{Made}
+use Rattle.model.specs.Made.{Made}
 use Rattle.model.specs.Make.{make_of}
 use Rattle.image.specs.Taken.{image_of, state_of, in_range, taken}
 use Rattle.image.proofs.TakenLaws.{decode_encode, image_taken}

@@ -12,10 +12,8 @@ use Rattle.parts.specs.Status.{cleared}
 use Rattle.parts.specs.Table.{part_of}
 use Rattle.parts.proofs.Rows.{and_both}
 use Rattle.trace.specs.declared.event.Event.TheVariants.{Sample}
-use Rattle.chip.specs.declared.check.Verdict.{Verdict}
-use Rattle.chip.specs.declared.check.Verdict.TheVariants.{Passed, Failed}
 use Rattle.chip.specs.declared.model.Model.{Model}
-use Rattle.chip.specs.Check.{bits_clear, check_of, Sound}
+use Rattle.chip.specs.Check.{bits_clear, check_of, Sound, Verdict, Passed, Failed}
 use Rattle.chip.specs.Model.{unpowered}
 use Rattle.chip.proofs.CheckLaws.{model_test, sound_in}
 use Rattle.events.proofs.Keeps.{keeps}
@@ -25,7 +23,7 @@ use Rattle.runs.specs.Event.{event_on_verdict, event_of}
 use Rattle.runs.specs.Run.{loop_of, run_on_verdict, run_of}
 use Rattle.runs.proofs.EventLaws.{event_sound}
 use Rattle.runs.proofs.RunRule.{loop_sound}
-use Rattle.model.specs.declared.make.Made.{Made}
+use Rattle.model.specs.Made.{Made}
 use Rattle.model.specs.Make.{status_of, make_in, make_of}
 use Rattle.image.specs.Taken.{in_range}
 use Rattle.calls.proofs.SelectCases.{select_by}

@@ -12,15 +12,12 @@ use Rattle.parts.specs.declared.part.Part.{Part}
 use Rattle.parts.specs.declared.refusal.Refusal.TheVariants as R
 use Rattle.parts.specs.Numbers.{refusal_number}
 use Rattle.parts.specs.Table.{part_of}
+use Rattle.trace.specs.Read.{Read, Whole, Refused}
 use Rattle.trace.specs.declared.event.Event.{Event}
-use Rattle.trace.specs.declared.read.Read.{Read}
-use Rattle.trace.specs.declared.read.Read.TheVariants.{Whole, Refused}
 use Rattle.trace.specs.Event.{sample_in, start_in, expected_in}
 use Rattle.trace.specs.Read as Trace
-use Rattle.chip.specs.declared.check.Verdict.{Verdict}
-use Rattle.chip.specs.declared.check.Verdict.TheVariants.{Passed, Failed}
 use Rattle.chip.specs.declared.model.Model.{Model}
-use Rattle.chip.specs.Check.{check_of}
+use Rattle.chip.specs.Check.{check_of, Verdict, Passed, Failed}
 use Rattle.events.specs.Event.{Outcome}
 use Rattle.events.proofs.Done.{Done, refused_with_lem, accepted_as, done}
 use Rattle.byte_path.specs.Select.{Select, select_of}

@@ -9,10 +9,9 @@ use lib.Dec.{eqb}
 use lib.ListN.{length}
 use Rattle.parts.specs.Table.{part_of}
 use Rattle.parts.proofs.Rows.{and_both}
-use Rattle.chip.specs.declared.check.Verdict.TheVariants.{Passed, Failed}
 use Rattle.parts.specs.declared.refusal.Refusal.TheVariants.{MemoryLength}
 use Rattle.chip.specs.declared.model.Model.{Model}
-use Rattle.chip.specs.Check.{model_in, check_of, Sound}
+use Rattle.chip.specs.Check.{model_in, check_of, Sound, Passed, Failed}
 use Rattle.byte_path.specs.Select.{select_of}
 use Rattle.runs.specs.Event.{event_of}
 use Rattle.runs.specs.Run.{run_of}

@@ -9,12 +9,10 @@ use lib.ListN.{length}
 use Rattle.parts.specs.declared.refusal.Refusal.{Refusal}
 use Rattle.parts.specs.declared.refusal.Refusal.TheVariants.{UnknownKind, NotDeselected, BufferLength}
 use Rattle.parts.specs.Table.{is_spi, part_of}
-use Rattle.chip.specs.declared.check.Verdict.{Verdict}
-use Rattle.chip.specs.declared.check.Verdict.TheVariants.{Passed, Failed}
 use Rattle.chip.specs.declared.model.BusState.{BusState}
 use Rattle.chip.specs.declared.model.BusState.TheVariants.{Unpowered, SpiOn, I2cOn}
 use Rattle.chip.specs.declared.model.Model.{Model}
-use Rattle.chip.specs.Check.{check_of, Sound}
+use Rattle.chip.specs.Check.{check_of, Sound, Verdict, Passed, Failed}
 use Rattle.byte_path.specs.PinPath.{selection_of}
 use Rattle.byte_path.specs.Select.{Select, refused_select, taken_select, sized_select, bus_select, verdict_select, select_of}
 

@@ -9,7 +9,7 @@ use Rattle.events.specs.Event.{Outcome}
 use Rattle.byte_path.specs.Select.{Select, select_of}
 use Rattle.runs.specs.Event.{event_of}
 use Rattle.runs.specs.Run.{Run, run_of}
-use Rattle.model.specs.declared.make.Made.{Made}
+use Rattle.model.specs.Made.{Made}
 use Rattle.model.specs.Make.{make_of}
 use Rattle.image.specs.Taken.{image_of, state_of, taken}
 use Rattle.calls.specs.Result.{event_result, run_result, select_result}

@@ -1,6 +1,2 @@
-// Definitions and theorems only: what the calls on images give back and leave. A crate needs a function, and this one says nothing.
+// Definitions and theorems only: what the calls on images give back and leave.
 #![tactic(auto)]
-
-pub fn nothing() -> u8 {
-    0
-}

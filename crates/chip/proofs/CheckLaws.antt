@@ -18,11 +18,9 @@ use Rattle.selection.proofs.RangeLaws as SpiRanges
 use Rattle.i2c.specs.declared.sample.I2c as I2cState
 use Rattle.i2c.specs.Sample as I2cSample
 use Rattle.transfer.proofs.RangeLaws as I2cRanges
-use Rattle.chip.specs.declared.check.Verdict.{Verdict}
-use Rattle.chip.specs.declared.check.Verdict.TheVariants.{Passed, Failed}
 use Rattle.chip.specs.declared.model.BusState.TheVariants.{SpiOn, I2cOn}
 use Rattle.chip.specs.declared.model.Model.{Model}
-use Rattle.chip.specs.Check.{bits_clear, holds_bits, model_in, bus_in, check_of, Sound}
+use Rattle.chip.specs.Check.{bits_clear, holds_bits, model_in, bus_in, check_of, Sound, Verdict, Passed, Failed}
 
 -- a test that passed, before others that would have failed with a refusal
 passed : (t : Bool) (v : Verdict) (r : Refusal) → cond t v (Failed r) ≡ Passed → (t ≡ true) × (v ≡ Passed)

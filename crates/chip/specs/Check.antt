@@ -1,17 +1,26 @@
 -- What is tested of state and memory before anything else: numbers 1, 2 and 3, in that order (document 01, Numbers given back).
-use Rattle.std.specs.Prelude.{ℕ, ◌≡◌, Bool, true, cond, not, ◌&&◌, List, ltb, eqb, length}
+use Rattle.std.specs.Prelude.{ℕ, ◌≡◌, Bool, true, cond, not, ◌&&◌, List, ltb, eqb, length, Result, Ok, Err, ⊤}
 use Rattle.parts.specs.declared.part.Part.{Part}
+use Rattle.parts.specs.declared.refusal.Refusal.{Refusal}
 use Rattle.parts.specs.declared.refusal.Refusal.TheVariants.{ModelRange, StateRange, MemoryLength}
 use Rattle.parts.specs.declared.status.Status.{Status}
 use Rattle.parts.specs.Table.{is_spi, part_of}
 use Rattle.selection.specs.Ranges as SpiRanges
 use Rattle.i2c.specs.declared.sample.I2c as State
 use Rattle.transfer.specs.Ranges as I2cRanges
-use Rattle.chip.specs.declared.check.Verdict.{Verdict}
-use Rattle.chip.specs.declared.check.Verdict.TheVariants.{Passed, Failed}
 use Rattle.chip.specs.declared.model.BusState.{BusState}
 use Rattle.chip.specs.declared.model.BusState.TheVariants.{Unpowered, SpiOn, I2cOn}
 use Rattle.chip.specs.declared.model.Model.{Model}
+
+-- a state and a memory pass, or why not
+abbrev pub Verdict : Type 0
+Verdict = Result ⊤ Refusal
+
+pattern abbrev pub Passed : Verdict
+Passed = Ok tt
+
+pattern abbrev pub Failed : Refusal → Verdict
+Failed r = Err r
 
 -- SRWD, BP1 and BP0 are all 0
 abbrev pub bits_clear : Status → Bool

@@ -7,14 +7,14 @@ use parts::status::Status;
 use spi::sample::Spi;
 
 // No power, or the part's bus under power with what it keeps between samples, its phase included.
-#[derive(Clone, Copy)]
+#[derive(Clone, Copy, Debug, PartialEq, Eq)]
 pub enum BusState {
     Unpowered,
     SpiOn { spi: Spi },
     I2cOn { i2c: I2c },
 }
 
-#[derive(Clone, Copy)]
+#[derive(Clone, Copy, Debug, PartialEq, Eq)]
 pub struct Model {
     pub part: u32,
     // address pins
@@ -40,9 +40,8 @@ pub fn with_bus(model: Model, status: Status, bus: BusState) -> Model
     ensures { result ≡ model_of model.part model.pins status bus }
 {
     Model {
-        part: model.part,
-        pins: model.pins,
         status,
         bus,
+        ..model
     }
 }

@@ -22,18 +22,16 @@ pub fn print(part: u32, trace: &[u8], memory: &mut [u8])
 {
     // 65,536 answers and 1,024 line ends: the longest text there is
     let mut out = [0u8; 66560];
-    let report = report::show::show(part, trace, memory, &mut out);
-    if report.long {
+    let Some(report) = report::show::show(part, trace, memory, &mut out) else {
         io::write_all(STDOUT_FILENO, b"too long\n");
         return;
-    }
-    let length = report.length;
-    if length <= 66560 {
-        let shown = io::count(length as isize, &out);
+    };
+    if report.length <= 66560 {
+        let shown = io::count(report.length as isize, &out);
         io::write_all(STDOUT_FILENO, &out[..shown]);
     }
     print_figures(
-        report.number as u64,
+        u64::from(parts::refusal::number_of(report.refusal)),
         report.count as u64,
         report.offset as u64,
     );

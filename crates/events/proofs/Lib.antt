@@ -3,3 +3,4 @@ pub mod Done
 pub mod Stays
 pub mod OtherEventLaws
 pub mod FlagLaws
+pub mod AnswerLaws

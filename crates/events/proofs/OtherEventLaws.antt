@@ -1,6 +1,7 @@
 -- An event that is no sample under power gives the same on any memory, leaves it, and sets no flag. By the cases of bus and event. Assumes
 -- nothing.
 use Prim.Native.Nat.{ℕ}
+use mathlib.Core.Logic.{◌⊎◌, inl, inr}
 use mathlib.Core.Path.{◌≡◌, refl, ap}
 use mathlib.Core.Bool.{Bool, true, false, cond}
 use mathlib.Core.List.{List}
@@ -15,7 +16,7 @@ use Rattle.trace.specs.declared.event.Event.TheVariants.{SpiPowerOn, I2cPowerOn,
 use Rattle.trace.specs.Sample.{NoSample}
 use Rattle.spi.specs.Show as SpiShow
 use Rattle.i2c.specs.Sample as I2cSample
-use Rattle.events.specs.declared.event.Answered.{Answered}
+use Rattle.events.specs.Reply.{Reply}
 use Rattle.chip.specs.declared.model.BusState.{BusState}
 use Rattle.chip.specs.declared.model.BusState.TheVariants.{Unpowered, SpiOn, I2cOn}
 use Rattle.chip.specs.declared.model.Model.{Model}
@@ -38,6 +39,12 @@ module _ (s : Model) (a : Answer) where
   gives_i2c_on (SpiOn y) k h x start m = rw k
   gives_i2c_on (I2cOn y) k h x start m = rw k
 
+  -- the power on of either bus, as the code tells it from other events
+  pub gives_on : Answering s.bus a → (e : Event) → ((x : ℕ) × (e ≡ SpiPowerOn x)) ⊎ ((x : ℕ) × (start : ℕ) × (e ≡ I2cPowerOn x start))
+      → EventGives s e (refused R.Powered s)
+  gives_on h e (inl q) = rw q.1 (gives_spi_on s.bus refl h q.0)
+  gives_on h e (inr q) = rw q.2 (gives_i2c_on s.bus refl h q.0 q.1)
+
   pub gives_off : (b : BusState) → s.bus ≡ b → Answering b a → EventGives s PowerOff (powered_off (part_of s.part) s)
   unfolding advance_of
   gives_off Unpowered k h m = absurd h
@@ -56,14 +63,14 @@ gives_unpowered s e k m = rw k
 
 -- ---- so it leaves the memory
 
-gives_powered : (s : Model) (a : Answer) (b : BusState) → s.bus ≡ b → Answering b a → (e : Event) → NoSample e → (r : Answered) × EventGives s e r
+gives_powered : (s : Model) (a : Answer) (b : BusState) → s.bus ≡ b → Answering b a → (e : Event) → NoSample e → (r : Reply) × EventGives s e r
 gives_powered s a b k h (SpiPowerOn x) n = (_, gives_spi_on s a b k h x)
 gives_powered s a b k h (I2cPowerOn x start) n = (_, gives_i2c_on s a b k h x start)
 gives_powered s a b k h PowerOff n = (_, gives_off s a b k h)
 gives_powered s a b k h (Sample x) n = absurd n
 gives_powered s a b k h (Expected v) n = (_, gives_expected s a b k h v)
 
-gives : (b : BusState) (s : Model) (e : Event) → s.bus ≡ b → OtherThanSample b e → (r : Answered) × EventGives s e r
+gives : (b : BusState) (s : Model) (e : Event) → s.bus ≡ b → OtherThanSample b e → (r : Reply) × EventGives s e r
 gives Unpowered s e k n = (_, gives_unpowered s e k)
 gives (SpiOn x) s e k n = gives_powered s _ (SpiOn x) k refl e n
 gives (I2cOn x) s e k n = gives_powered s _ (I2cOn x) k refl e n

@@ -20,7 +20,7 @@ use Rattle.i2c.specs.declared.sample.I2c as I2cState
 use Rattle.transfer.specs.Flag as I2cFlag
 use Rattle.transfer.specs.Levels as I2cLevels
 use Rattle.i2c.specs.Sample as I2cSample
-use Rattle.events.specs.declared.event.Answered.{Answered}
+use Rattle.events.specs.Reply.{Reply}
 use Rattle.chip.specs.declared.model.BusState.{BusState}
 use Rattle.chip.specs.declared.model.BusState.TheVariants.{Unpowered, SpiOn, I2cOn}
 use Rattle.chip.specs.declared.model.Model.{Model}
@@ -28,41 +28,41 @@ use Rattle.chip.specs.Model.{model_of, unpowered}
 use Rattle.power.specs.Power.{spi_start, i2c_start, kept_status}
 
 -- an accepted event that is no sample: its flag is clear
-abbrev pub accepted : Answer → Model → Answered
+abbrev pub accepted : Answer → Model → Reply
 accepted a s = record { number = 0; answer = answer_number a; flag = false; model = s }
 
 -- an accepted sample, flagged or not
-abbrev pub sampled : Bool → Answer → Model → Answered
+abbrev pub sampled : Bool → Answer → Model → Reply
 sampled f a s = record { number = 0; answer = answer_number a; flag = f; model = s }
 
 -- a refusal has its number, drives nothing, sets no flag and leaves the state as it was
-abbrev pub refused : Refusal → Model → Answered
+abbrev pub refused : Refusal → Model → Reply
 refused r s = record { number = refusal_number r; answer = 2; flag = false; model = s }
 
 -- what an event gives, and the memory after it
 pub record Outcome : Type 0 where
-  pub result : Answered
+  pub result : Reply
   pub memory : List ℕ
 
 -- with the memory as it was
-abbrev pub keeping : List ℕ → Answered → Outcome
+abbrev pub keeping : List ℕ → Reply → Outcome
 keeping m r = record { result = r; memory = m }
 
 -- an expected answer v: if it is the part's answer at present, it is accepted with that answer and changes nothing, else refused
 -- with 9
-abbrev pub expected : Model → Answer → ℕ → Answered
+abbrev pub expected : Model → Answer → ℕ → Reply
 expected s a v = cond (eqb v (answer_number a)) (accepted a s) (refused R.Unexpected s)
 
 -- power on clears WEL, keeps the saved bits and drives nothing
-abbrev pub powered_on : Model → BusState → Answered
+abbrev pub powered_on : Model → BusState → Reply
 powered_on s b = accepted HighZ (model_of s.part s.pins (with_wel s.status false) b)
 
 -- power off drives nothing and leaves what a making with the bits that outlive it gives
-abbrev pub powered_off : Part → Model → Answered
+abbrev pub powered_off : Part → Model → Reply
 powered_off p s = accepted HighZ (unpowered s.part s.pins (kept_status p s.status))
 
 -- without power: power on is accepted, and anything else is refused with 7
-abbrev pub on_unpowered : Model → Event → Answered
+abbrev pub on_unpowered : Model → Event → Reply
 on_unpowered s (SpiPowerOn x) = powered_on s (SpiOn (spi_start (SpiLevels.levels_of x)))
 on_unpowered s (I2cPowerOn x a) = powered_on s (I2cOn (i2c_start (I2cLevels.levels_of x) a))
 on_unpowered s PowerOff = refused R.Unpowered s

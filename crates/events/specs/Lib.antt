@@ -1,3 +1,4 @@
+pub mod Reply
 pub mod Event
 pub mod Flag
 pub mod OtherEvent

@@ -5,7 +5,7 @@ use Rattle.trace.specs.declared.event.Event.{Event}
 use Rattle.trace.specs.Sample.{NoSample}
 use Rattle.spi.specs.Show as SpiShow
 use Rattle.i2c.specs.Sample as I2cSample
-use Rattle.events.specs.declared.event.Answered.{Answered}
+use Rattle.events.specs.Reply.{Reply}
 use Rattle.chip.specs.declared.model.BusState.{BusState}
 use Rattle.chip.specs.declared.model.BusState.TheVariants.{Unpowered, SpiOn, I2cOn}
 use Rattle.chip.specs.declared.model.Model.{Model}
@@ -24,5 +24,5 @@ Answering (SpiOn x) a = SpiShow.answer_at x.last x.shown ≡ a
 Answering (I2cOn x) a = I2cSample.answer_of x.pulling ≡ a
 
 -- the event gives r on any memory, and leaves the memory as it is
-abbrev pub EventGives : Model → Event → Answered → Type 0
+abbrev pub EventGives : Model → Event → Reply → Type 0
 EventGives s e r = (m : List ℕ) → advance_of s m e ≡ keeping m r

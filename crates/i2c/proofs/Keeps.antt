@@ -8,7 +8,7 @@ use lib.Dec.{ltb}
 use lib.ListN.{length}
 use borrow.Author.Tests.{ltb-true}
 use Rattle.parts.specs.declared.part.Part.{Part}
-use Rattle.serial.specs.declared.write.Write.TheVariants.{Nothing}
+use Rattle.std.specs.Prelude.{None}
 use Rattle.serial.specs.Address.{next_address}
 use Rattle.serial.specs.Bits.{shifted}
 use Rattle.serial.specs.Write.{applied, Within}
@@ -82,7 +82,7 @@ rise_write_within p (Taking f n v) wp i = by (ltb n 8)
     byte (Data a) true g = tt
     byte (Data a) false g = g
 
-    by : (t : Bool) → Within p.size (cond t Nothing (field_write f v wp))
+    by : (t : Bool) → Within p.size (cond t None (field_write f v wp))
     by true = tt
     by false = byte f wp i.0
 rise_write_within p (Sending a n) wp i = tt

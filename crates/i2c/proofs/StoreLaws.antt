@@ -6,7 +6,7 @@ use mathlib.Core.List.{List, [], ◌∷◌}
 use types.Run.{OneOf, miss}
 use denote.Enum.Declared.{tag_of}
 use lib.Dec.{ltb}
-use Rattle.serial.specs.declared.write.Write.TheVariants.{Nothing}
+use Rattle.std.specs.Prelude.{None}
 use Rattle.transfer.specs.declared.phase.Field.{Field}
 use Rattle.transfer.specs.declared.phase.Field.TheVariants.{Word, HighByte, LowByte, Data}
 use Rattle.transfer.specs.declared.phase.Phase.{Phase}
@@ -19,7 +19,7 @@ use Rattle.transfer.specs.contracts.phase.Phase as phase
 abbrev others : List ℕ
 others = 0 ∷ 1 ∷ 3 ∷ []
 
-pub none_taken : (ph : Phase) (wp : Bool) → OneOf others (tag_of phase.the_type ph) → rise_write ph wp ≡ Nothing
+pub none_taken : (ph : Phase) (wp : Bool) → OneOf others (tag_of phase.the_type ph) → rise_write ph wp ≡ None
 none_taken Rest wp h = refl
 none_taken Ignoring wp h = refl
 none_taken (Taking f n v) wp h = absurd (miss others 2 tt h)
@@ -29,15 +29,15 @@ none_taken (Sending a n) wp h = refl
 abbrev before : List ℕ
 before = 0 ∷ 1 ∷ 2 ∷ []
 
-pub no_data : (f : Field) (n v : ℕ) (wp : Bool) → OneOf before (tag_of field.the_type f) → rise_write (Taking f n v) wp ≡ Nothing
+pub no_data : (f : Field) (n v : ℕ) (wp : Bool) → OneOf before (tag_of field.the_type f) → rise_write (Taking f n v) wp ≡ None
 no_data f n v wp h = by (ltb n 8)
   where
-    byte : (x : Field) → OneOf before (tag_of field.the_type x) → field_write x v wp ≡ Nothing
+    byte : (x : Field) → OneOf before (tag_of field.the_type x) → field_write x v wp ≡ None
     byte Word i = refl
     byte (HighByte a16) i = refl
     byte (LowByte a16 high) i = refl
     byte (Data a) i = absurd (miss before 3 tt i)
 
-    by : (t : Bool) → cond t Nothing (field_write f v wp) ≡ Nothing
+    by : (t : Bool) → cond t None (field_write f v wp) ≡ None
     by true = refl
     by false = byte f h

@@ -1,10 +1,9 @@
 -- One sample of an I2C part under power: next state, answer, and what is written.
-use Rattle.std.specs.Prelude.{ℕ, ◌≡◌, Bool, true, false, List, length}
+use Rattle.std.specs.Prelude.{ℕ, ◌≡◌, Bool, true, false, List, length, None, Option}
 use Rattle.parts.specs.declared.answer.Answer.{Answer}
 use Rattle.parts.specs.declared.answer.Answer.TheVariants.{Low, HighZ}
 use Rattle.parts.specs.declared.part.Part.{Part}
 use Rattle.serial.specs.declared.write.Write.{Write}
-use Rattle.serial.specs.declared.write.Write.TheVariants.{Nothing}
 use Rattle.transfer.specs.declared.levels.Levels.{Levels}
 use Rattle.transfer.specs.declared.edge.Edge.{Edge}
 use Rattle.transfer.specs.declared.edge.Edge.TheVariants.{Start, Stop, Rise, Fall, Quiet}
@@ -29,22 +28,22 @@ answer_of false = HighZ
 pub record Outcome : Type 0 where
   pub i2c : I2c
   pub answer : Answer
-  pub write : Write
+  pub write : Option Write
 
 -- a step to the levels seen, whether the part pulls, an address buffer, a phase, and what is written
-abbrev pub step_to : Levels → Bool → AddressBuffer → Phase → Write → Outcome
+abbrev pub step_to : Levels → Bool → AddressBuffer → Phase → Option Write → Outcome
 step_to l pulling b ph w =
     record { i2c = record { last = l; pulling = pulling; buffer = b; phase = ph }; answer = answer_of pulling; write = w }
 
 -- what an edge does, with the levels l and a memory that the part may read. At START and STOP the part lets go of the line and forgets
 -- a byte that is not whole; it then takes in a word after START, and rests after STOP
 abbrev pub step_on : Edge → Part → ℕ → I2c → Levels → List ℕ → Outcome
-step_on Start p pins s l m = step_to l false s.buffer (Taking Word 0 0) Nothing
-step_on Stop p pins s l m = step_to l false s.buffer Rest Nothing
+step_on Start p pins s l m = step_to l false s.buffer (Taking Word 0 0) None
+step_on Stop p pins s l m = step_to l false s.buffer Rest None
 step_on (Rise line) p pins s l m =
     step_to l s.pulling (buffer_after p s.buffer s.phase) (after_rise p pins s.buffer s.phase line) (rise_write s.phase l.wp)
-step_on Fall p pins s l m = step_to l (pulls_after p pins m s.phase) s.buffer s.phase Nothing
-step_on Quiet p pins s l m = step_to l s.pulling s.buffer s.phase Nothing
+step_on Fall p pins s l m = step_to l (pulls_after p pins m s.phase) s.buffer s.phase None
+step_on Quiet p pins s l m = step_to l s.pulling s.buffer s.phase None
 
 unfoldable pub step_of : Part → ℕ → I2c → Levels → List ℕ → Outcome
 step_of p pins s l m = step_on (edge_of s.pulling s.last l) p pins s l m

@@ -8,7 +8,7 @@ use transfer::levels::Levels;
 use transfer::phase::Phase;
 
 // What it keeps between samples.
-#[derive(Clone, Copy)]
+#[derive(Clone, Copy, Debug, PartialEq, Eq)]
 pub struct I2c {
     // the levels of the last sample
     pub last: Levels,

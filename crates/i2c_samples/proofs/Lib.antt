@@ -1,2 +1,1 @@
 pub mod I2cLaws
-pub mod ClockLaws

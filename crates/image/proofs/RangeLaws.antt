@@ -113,11 +113,5 @@ module _ (s : Model) (h : in_range s ≡ true) where
   pub fit_part : Fit (part_of s.part)
   fit_part = part_fits s.part inside.known
 
-  pub part_small : s.part < 256
-  part_small = omega (arith, inside.known)
-
-  pub pins_small : s.pins < 256
-  pins_small = omega (arith, inside.wired, fit_part.few)
-
   pub small_fields : Small (fields_of s)
   small_fields = bus_small (part_of s.part) fit_part s.part s.pins _ s.status s.bus bus_test

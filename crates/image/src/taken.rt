@@ -9,7 +9,8 @@ pub fn state_of(bytes: &[u8]) -> Model
     requires { length bytes.now ≡ 32 }
     ensures { result ≡ state_of bytes.now }
 {
-    image_fields::state::state_in(crate::layout::fields_in(bytes))
+    let image = <&[u8; 32]>::try_from(bytes).unwrap();
+    Model::from(crate::layout::fields_in(image))
 }
 
 // The image of a state that passes 1 and 2.

@@ -1,32 +1,22 @@
 // Which buffers are images.
-ghost use Rattle.std.specs.Prelude.{◌≡◌, ◌≤◌, length, drop};
-ghost use Rattle.image.specs.Taken.{zeros, taken};
+ghost use Rattle.std.specs.Prelude.{◌≡◌, eqb};
+ghost use Rattle.std.specs.List.{list_all};
+ghost use Rattle.image.specs.Taken.{taken};
 
-// Whether all bytes from index start on are 0.
-pub fn zeros_from(bytes: &[u8], start: usize) -> bool
-    requires { start ≤ length bytes.now }
-    ensures { result ≡ zeros (drop start bytes.now) }
+// Whether all bytes are 0; the `zeros` of `example12` makes a memory.
+fn zeros(bytes: &[u8]) -> bool
+    ensures { result ≡ list_all (λ byte. eqb byte 0) bytes.now }
 {
-    let mut at = start;
-    while at < bytes.len() {
-        if bytes[at] != 0 {
-            return false;
-        }
-        at += 1;
-    }
-    true
+    bytes.iter().all(|byte| *byte == 0)
 }
 
 // Whether a buffer is an image: 32 bytes, of which those that no field uses are 0, and fields that are taken.
+#[tactic(auto, using(crate::proofs::BusLaws::taken_tests, crate::proofs::BusLaws::no_length))]
 pub fn is_taken(bytes: &[u8]) -> bool
     ensures { result ≡ taken bytes.now }
 {
-    if bytes.len() != 32 {
-        return false;
-    }
-    if zeros_from(bytes, 20) {
-        crate::fields::takes(image::layout::fields_in(bytes))
-    } else {
-        false
+    match <&[u8; 32]>::try_from(bytes) {
+        Ok(image) => zeros(&image[20..]) && crate::fields::takes(image::layout::fields_in(image)),
+        Err(_) => false,
     }
 }

@@ -1,10 +1,9 @@
 -- A state as fields, and back.
-use Rattle.std.specs.Prelude.{ℕ, ◌/◌, ◌%◌, cond, eqb}
-use Rattle.parts.specs.declared.answer.Answer.{Answer}
-use Rattle.parts.specs.declared.answer.Answer.TheVariants.{Low, High, HighZ}
-use Rattle.parts.specs.declared.status.Status.{Status}
+use Rattle.std.specs.Prelude.{ℕ, ◌≡◌, cond, eqb}
 use Rattle.parts.specs.Numbers.{answer_number}
+pub use Rattle.parts.specs.Numbers.{answer_in}
 use Rattle.parts.specs.Status.{bit, status_byte}
+pub use Rattle.parts.specs.Status.{status_in}
 use Rattle.selection.specs.Levels as SpiLevels
 use Rattle.transfer.specs.Levels as I2cLevels
 use Rattle.spi.specs.declared.sample.Spi.{Spi}
@@ -67,12 +66,6 @@ fields_of s = bus_fields s.part s.pins (status_byte s.status) s.bus
 
 -- ---- and back
 
-abbrev pub status_in : ℕ → Status
-status_in x = record { srwd = eqb (x / 128 % 2) 1; bp1 = eqb (x / 8 % 2) 1; bp0 = eqb (x / 4 % 2) 1; wel = eqb (x / 2 % 2) 1 }
-
-abbrev pub answer_in : ℕ → Answer
-answer_in x = cond (eqb x 0) Low (cond (eqb x 1) High HighZ)
-
 abbrev pub spi_in : Fields → Spi
 spi_in f =
     record {
@@ -96,3 +89,7 @@ bus_from f = cond (eqb f.power 1) (SpiOn (spi_in f)) (cond (eqb f.power 2) (I2cO
 
 abbrev pub state_in : Fields → Model
 state_in f = record { part = f.part; pins = f.pins; status = status_in f.status; bus = bus_from f }
+
+-- the fields are those of the state that they read as
+abbrev pub ReadBack : Fields → Type 0
+ReadBack f = fields_of (state_in f) ≡ f

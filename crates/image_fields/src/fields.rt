@@ -1,9 +1,16 @@
 // The fields of an image, before they are bytes.
 ghost use Rattle.std.specs.Prelude.{◌≡◌};
-ghost use Rattle.image_fields.specs.Fields.{phase_fields, only_tag};
+ghost use Rattle.image_fields.specs.Fields.{only_tag};
+
+// The power of an image: none, or the kind of the power on. A byte of an image may be any, so it is kept as one.
+pub const POWER_OFF: u8 = 0;
+
+pub const POWER_SPI: u8 = 1;
+
+pub const POWER_I2C: u8 = 2;
 
 // What the part waits for.
-#[derive(Clone, Copy)]
+#[derive(Clone, Copy, Debug, PartialEq, Eq)]
 pub struct PhaseFields {
     pub tag: u8,
     pub count: u8,
@@ -12,7 +19,7 @@ pub struct PhaseFields {
     pub detail: u8,
 }
 
-#[derive(Clone, Copy)]
+#[derive(Clone, Copy, Debug, PartialEq, Eq)]
 pub struct Fields {
     pub part: u8,
     pub pins: u8,
@@ -26,28 +33,17 @@ pub struct Fields {
     pub used: u8,
 }
 
-// A phase with its numbers.
-pub fn with_numbers(tag: u8, count: u8, value: u32, address: u32, detail: u8) -> PhaseFields
-    ensures { result ≡ phase_fields tag count value address detail }
-{
-    PhaseFields {
-        tag,
-        count,
-        value,
-        address,
-        detail,
-    }
-}
-
-// A phase that has no numbers.
-pub fn only_tag(tag: u8) -> PhaseFields
-    ensures { result ≡ only_tag tag }
-{
-    PhaseFields {
-        tag,
-        count: 0,
-        value: 0,
-        address: 0,
-        detail: 0,
+impl PhaseFields {
+    // A phase that has no numbers.
+    pub fn only_tag(tag: u8) -> PhaseFields
+        ensures { result ≡ only_tag tag }
+    {
+        PhaseFields {
+            tag,
+            count: 0,
+            value: 0,
+            address: 0,
+            detail: 0,
+        }
     }
 }

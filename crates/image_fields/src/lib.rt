@@ -5,3 +5,4 @@ pub mod fields;
 pub mod i2c_phase;
 pub mod spi_phase;
 pub mod state;
+pub mod tag;

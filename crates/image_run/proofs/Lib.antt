@@ -1,4 +1,3 @@
 pub mod SampleLaws
 pub mod EventLaws
-pub mod RunLaws
 pub mod ExpectedLaws

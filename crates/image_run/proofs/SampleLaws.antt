@@ -4,6 +4,7 @@ use Prim.Native.Nat.{ℕ, ◌<◌, ◌≤◌}
 use mathlib.Core.Path.{◌≡◌}
 use mathlib.Core.Bool.{true, false, not}
 use mathlib.Core.List.{List}
+use Rattle.std.specs.Prelude.{Option, None, Some}
 use lib.ListN.{length, get_or}
 use borrow.Author.Tests.{eq-eqb, lt-ltb, le-ltb, not-true}
 use Rattle.parts.specs.declared.part.Part.{Part}
@@ -24,7 +25,7 @@ use Rattle.image_fields.specs.declared.fields.Fields.{Fields}
 use Rattle.image_fields.specs.State.{fields_of, state_in}
 use Rattle.image.specs.Layout.{fields_in}
 use Rattle.image.specs.Taken.{state_of, taken}
-use Rattle.image.proofs.TakenLaws.{taken_fields}
+use Rattle.image.proofs.TakenLaws.{taken_fields, known_part}
 use Rattle.image_sample.specs.declared.stepped.Stepped.{Stepped}
 use Rattle.image_sample.specs.Stepped.{Gives}
 use Rattle.image_run.specs.Sampled.{ImageGives}
@@ -47,20 +48,30 @@ module _ (b t m : List ℕ) (sound : Sound (state_of b) m) where
       let f : sample_first (sample_limit bus) t ≡ true = rw (le-ltb (length t) 2 l, eq-eqb (get_or t 0 0) 4 k, lt-ltb (get_or t 1 0) (sample_limit bus) h) in
       event_whole (state_of b) m t sound (Sample (get_or t 1 0)) 2 (sample_read (part_of (state_of b).part) t f)
 
-  gives : (r : Stepped) → event_of (state_of b) m t ≡ advance_of (state_of b) m (Sample (get_or t 1 0)) → Gives (fields_in b) m (get_or t 1 0) r → ImageGives b t m r
-  gives r e g = λ d. rw e (g d)
+  gives : (r : Option Stepped) → event_of (state_of b) m t ≡ advance_of (state_of b) m (Sample (get_or t 1 0)) → Gives (fields_in b) m (get_or t 1 0) r → ImageGives b t m r
+  gives None e g = tt
+  gives (Some r) e g = rw e g
 
-  -- with the fields as the code has them
-  module _ (f : Fields) (r : Stepped) (e : f ≡ fields_in b) where
+  -- with image and fields as the code has them
+  module _ (image : List ℕ) (same : image ≡ b) (f : Fields) (e : f ≡ fields_in image) (r : Option Stepped) where
     pub spi_told : f.power ≡ 1 → 2 ≤ length t → get_or t 0 0 ≡ 4 → get_or t 1 0 < 32 → Gives f m (get_or t 1 0) r → ImageGives b t m r
-    spi_told p l k h g = gives r (sample_event l k (rw (limit_spi bus (spi_bus (rw e at p))) h)) (rw e at g)
+    spi_told p l k h g =
+        gives r (sample_event l k (rw (limit_spi bus (spi_bus (rw (e, same) at p))) h)) (rw (e, same) at g)
 
     pub i2c_told : f.power ≡ 2 → 2 ≤ length t → get_or t 0 0 ≡ 4 → get_or t 1 0 < 8 → Gives f m (get_or t 1 0) r → ImageGives b t m r
-    i2c_told p l k h g = gives r (sample_event l k (rw (limit_i2c bus (i2c_bus (rw e at p))) h)) (rw e at g)
+    i2c_told p l k h g =
+        gives r (sample_event l k (rw (limit_i2c bus (i2c_bus (rw (e, same) at p))) h)) (rw (e, same) at g)
 
--- ---- what a sample on fields asks, by the bus: its power, and the limit of its samples
+-- ---- what the fields of an image that is taken are, as the code has both
 
-module _ (b m : List ℕ) (h : taken b ≡ true) (sound : Sound (state_of b) m) (f : Fields) (p : Part) (e : f ≡ fields_in b) (q : p ≡ part_of f.part) where
-  pub ready : {x limit power : ℕ} → f.power ≡ power → x < limit
+module _ (b m : List ℕ) (h : taken b ≡ true) (sound : Sound (state_of b) m) (image : List ℕ) (same : image ≡ b) (f : Fields) (e : f ≡ fields_in image) where
+  pub read_back : fields_of (state_in f) ≡ f
+  read_back = rw (e, same) (taken_fields b h)
+
+  pub known : f.part < 5
+  known = rw (e, same) (known_part b h)
+
+  -- what a sample asks, by the bus: its power, and the limit of its samples
+  pub ready : {n x limit power : ℕ} {p : Part} → n ≡ f.part → p ≡ part_of n → f.power ≡ power → x < limit
       → (fields_of (state_in f) ≡ f) × (f.power ≡ power) × (x < limit) × (p ≡ part_of f.part) × Sound (state_in f) m
-  ready k l = (rw e (taken_fields b h), k, l, q, rw e sound)
+  ready en ep k l = (read_back, k, l, rw en at ep, rw (e, same) sound)

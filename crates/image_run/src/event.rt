@@ -3,49 +3,49 @@ ghost use Rattle.std.specs.Prelude.{◌≡◌, true};
 ghost use Rattle.chip.specs.Check.{Sound};
 ghost use Rattle.runs.specs.Event.{event_of};
 ghost use Rattle.image.specs.Taken.{image_of, state_of, taken};
-ghost use Rattle.image_run.specs.Sampled.{told_by};
+ghost use Rattle.image_run.specs.Told.{told_by, told_of};
 
+use parts::answer::Answer;
 use parts::refusal::Refusal;
 
-// What an event gives besides state and memory: number or 0, answer, warning flag.
-#[derive(Clone, Copy)]
+// What an accepted event gives besides state and memory: its answer and its warning flag.
+#[derive(Clone, Copy, Debug, PartialEq, Eq)]
 pub struct Told {
-    pub number: u8,
-    pub answer: u8,
+    pub answer: Answer,
     pub flag: bool,
 }
 
-// A sample that completes no field or byte and an expected answer that holds are taken on the fields of the image, anything else as a run
-// of one, which leaves the answer at 2 if it is refused; the first flag is at 0 if the event is flagged. Without bytes a run is empty, and
-// an event is cut short.
-pub fn event_on(state: &mut [u8], event: &[u8], memory: &mut [u8]) -> Told
+// One event on the state that the image reads as. A refused one leaves the image as it was. `inline(never)` keeps it out of `event_on`: within
+// it a sample on the fields took more instructions.
+#[inline(never)]
+fn on_state(state: &mut [u8], event: &[u8], memory: &mut [u8]) -> Result<Told, Refusal>
     requires { (taken state.old ≡ true) × Sound (state_of state.old) memory.old }
-    ensures told { result ≡ told_by (event_of (state_of state.old) memory.old event.now) }
+    ensures told { told_of result ≡ told_by (event_of (state_of state.old) memory.old event.now) }
     ensures state { state.new ≡ image_of (event_of (state_of state.old) memory.old event.now).result.model }
     ensures memory { memory.new ≡ (event_of (state_of state.old) memory.old event.now).memory }
 {
-    let stepped = crate::fields::on_fields(state, event, memory);
-    if stepped.done {
-        let fields = stepped.fields;
-        image::layout::put_fields(state, fields);
-        return Told {
-            number: 0,
-            answer: stepped.answer,
+    let model = image::taken::state_of(state);
+    let answered = runs::one::checked_event(model, event, memory)?;
+    image::taken::put_image(state, answered.model);
+    Ok(Told {
+        answer: answered.answer,
+        flag: answered.flag,
+    })
+}
+
+// A sample that completes no field or byte and an expected answer that holds are taken on the fields of the image, anything else on its state.
+pub fn event_on(state: &mut [u8], event: &[u8], memory: &mut [u8]) -> Result<Told, Refusal>
+    requires { (taken state.old ≡ true) × Sound (state_of state.old) memory.old }
+    ensures told { told_of result ≡ told_by (event_of (state_of state.old) memory.old event.now) }
+    ensures state { state.new ≡ image_of (event_of (state_of state.old) memory.old event.now).result.model }
+    ensures memory { memory.new ≡ (event_of (state_of state.old) memory.old event.now).memory }
+{
+    if let Some(stepped) = crate::fields::on_fields(state, event, memory) {
+        image::layout::put_fields(state, stepped.fields);
+        return Ok(Told {
+            answer: Answer::of_number(stepped.answer),
             flag: stepped.flag,
-        };
+        });
     }
-    if event.len() == 0 {
-        return Told {
-            number: Refusal::Truncated.number(),
-            answer: 2,
-            flag: false,
-        };
-    }
-    let mut answers = [2u8; 1];
-    let ran = crate::run::run_on(state, event, 1, memory, &mut answers);
-    Told {
-        number: ran.number,
-        answer: answers[0],
-        flag: ran.flag == 0,
-    }
+    on_state(state, event, memory)
 }

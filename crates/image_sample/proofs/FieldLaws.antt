@@ -1,8 +1,5 @@
--- Fields that are those of the state that they read as, field by field; and nothing is said of what is not done. Assumes nothing.
-use Prim.Native.Nat.{ℕ}
-use mathlib.Core.Path.{◌≡◌, ap}
-use mathlib.Core.Bool.{Bool, true, false}
-use native.Mathlib.Omega.{arith}
+-- Fields that are those of the state that they read as, field by field. Assumes nothing.
+use mathlib.Core.Path.{◌≡◌, sym, ap}
 use lib.Dec.{eqb}
 use Rattle.parts.specs.Numbers.{answer_number}
 use Rattle.parts.specs.Status.{bit, status_byte}
@@ -19,6 +16,8 @@ pub record SpiSame (f : Fields) : Type 0 where
   pub driven : answer_number (answer_in f.driven) ≡ f.driven
   pub asleep : bit (eqb f.asleep 1) ≡ f.asleep
   pub phase : SpiPhase.fields_of (SpiPhase.phase_in f.phase) ≡ f.phase
+  pub buffer : f.buffer ≡ 0
+  pub used : f.used ≡ 0
 
 pub spi_same : (f : Fields) → fields_of (state_in f) ≡ f → f.power ≡ 1 → SpiSame f
 spi_same f same on =
@@ -27,6 +26,8 @@ spi_same f same on =
       driven = rw on at (ap (λ (y : Fields). y.driven) same);
       asleep = rw on at (ap (λ (y : Fields). y.asleep) same);
       phase = rw on at (ap (λ (y : Fields). y.phase) same);
+      buffer = sym (rw on at (ap (λ (y : Fields). y.buffer) same));
+      used = sym (rw on at (ap (λ (y : Fields). y.used) same));
     }
 
 pub record I2cSame (f : Fields) : Type 0 where
@@ -34,6 +35,7 @@ pub record I2cSame (f : Fields) : Type 0 where
   pub driven : answer_number (answer_of (eqb f.driven 0)) ≡ f.driven
   pub used : bit (eqb f.used 1) ≡ f.used
   pub phase : I2cPhase.fields_of (I2cPhase.phase_in f.phase) ≡ f.phase
+  pub asleep : f.asleep ≡ 0
 
 pub i2c_same : (f : Fields) → fields_of (state_in f) ≡ f → f.power ≡ 2 → I2cSame f
 i2c_same f same on =
@@ -42,10 +44,5 @@ i2c_same f same on =
       driven = rw on at (ap (λ (y : Fields). y.driven) same);
       used = rw on at (ap (λ (y : Fields). y.used) same);
       phase = rw on at (ap (λ (y : Fields). y.phase) same);
+      asleep = sym (rw on at (ap (λ (y : Fields). y.asleep) same));
     }
-
--- ---- what is not done
-
--- whatever would be said of it if it were done
-pub left_undone : {A : Type 0} {d : Bool} → d ≡ false → d ≡ true → A
-left_undone e h = let z : ◌≡◌ {A = ℕ} 0 1 = cc in absurd (omega arith)

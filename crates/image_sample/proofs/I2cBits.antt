@@ -4,7 +4,7 @@ use mathlib.Core.Path.{◌≡◌, refl, sym, ap, ◌∙◌}
 use mathlib.Core.Bool.{Bool}
 use native.Mathlib.Omega.{arith}
 use Rattle.parts.specs.declared.part.Part.{Part}
-use Rattle.serial.specs.declared.write.Write.TheVariants.{Nothing}
+use Rattle.std.specs.Prelude.{None}
 use Rattle.serial.specs.Bits.{shifted}
 use Rattle.transfer.specs.declared.buffer.AddressBuffer.{AddressBuffer}
 use Rattle.transfer.specs.declared.phase.Field.{Field}
@@ -52,7 +52,7 @@ module _ (x : PhaseFields) (same : fields_of (phase_in x) ≡ x) (l : x.count < 
       let e = rw (same_bits_lem (phase_in x)) at (one_more_lem (bits_of (phase_in x)) (value_of (phase_in x)) few p pins a b (phase_in x)) in
       sym (ap fields_of e ∙ bits.more b)
 
-  pub unwritten : (wp : Bool) → rise_write (phase_in x) wp ≡ Nothing
+  pub unwritten : (wp : Bool) → rise_write (phase_in x) wp ≡ None
   unwritten wp = rw (same_bits_lem (phase_in x)) at (none_written (bits_of (phase_in x)) (value_of (phase_in x)) few wp (phase_in x))
 
   pub stays : (p : Part) (a : AddressBuffer) → buffer_after p a (phase_in x) ≡ a

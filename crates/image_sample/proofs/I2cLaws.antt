@@ -10,8 +10,8 @@ use lib.ListN.{length}
 use Rattle.parts.specs.declared.part.Part.{Part}
 use Rattle.parts.specs.Numbers.{answer_number}
 use Rattle.parts.specs.Table.{part_of}
+use Rattle.std.specs.Prelude.{None, Some, Option}
 use Rattle.serial.specs.declared.write.Write.{Write}
-use Rattle.serial.specs.declared.write.Write.TheVariants.{Nothing}
 use Rattle.trace.specs.declared.event.Event.TheVariants.{Sample}
 use Rattle.transfer.specs.declared.edge.Edge.{Edge}
 use Rattle.transfer.specs.declared.edge.Edge.TheVariants.{Start, Stop, Rise, Fall, Quiet}
@@ -66,15 +66,15 @@ module _ (p : Part) (f : Fields) (x : ℕ) (m : List ℕ) (pre : Asked p f x m) 
   advance e k = rw (pre.3, pre.1, k)
 
   -- a step that writes nothing and keeps the address buffer, on the fields
-  as_fields : {pulling : Bool} {a : AddressBuffer} {ph : Phase} {w : Write} {flag : Bool} → advance_of (state_in f) m (Sample x) ≡ i2c_sampled (state_in f) m flag (step_to (levels_of x) pulling a ph w)
-      → w ≡ Nothing
+  as_fields : {pulling : Bool} {a : AddressBuffer} {ph : Phase} {w : Option Write} {flag : Bool} → advance_of (state_in f) m (Sample x) ≡ i2c_sampled (state_in f) m flag (step_to (levels_of x) pulling a ph w)
+      → w ≡ None
       → a ≡ (i2c_in f).buffer
       → {d : ℕ} → d ≡ answer_number (answer_of pulling)
       → {q : PhaseFields} → q ≡ I2cPhase.fields_of ph
       → {r : Stepped} → r ≡ i2c_done (i2c_moved f x d q) flag
-      → Gives f m x r
-  as_fields e none stays ed eq er h = (
-    rw (er, e, ed, eq, stays, same.status, same.used, i2c_sample_same x pre.2),
+      → Gives f m x (Some r)
+  as_fields e none stays ed eq er = (
+    rw (er, e, ed, eq, stays, same.status, same.used, i2c_sample_same x pre.2, pre.1, same.asleep),
     rw (e, none),
     rw e,
   )
@@ -87,23 +87,23 @@ module _ (p : Part) (f : Fields) (x : ℕ) (m : List ℕ) (pre : Asked p f x m) 
     done_is : {g g' : Fields} {r : Stepped} → r ≡ i2c_done g flag → g ≡ g' → r ≡ i2c_done g' (flag_of (I2cPhase.phase_in f.phase) (levels_of f.last) (levels_of x))
     done_is er eg = rw (er, eg, ef, eh, eb, el)
 
-    pub quiet : {g : Fields} {r : Stepped} → e ≡ Quiet → g ≡ i2c_moved f x f.driven f.phase → r ≡ i2c_done g flag → Gives f m x r
+    pub quiet : {g : Fields} {r : Stepped} → e ≡ Quiet → g ≡ i2c_moved f x f.driven f.phase → r ≡ i2c_done g flag → Gives f m x (Some r)
     quiet k eg er = as_fields (advance Quiet (seen k)) refl refl (sym same.driven) (sym same.phase) (done_is er eg)
 
-    pub start : {g : Fields} {r : Stepped} → e ≡ Start → g ≡ i2c_moved f x 2 (I2cPhase.fields_of (Taking Word 0 0)) → r ≡ i2c_done g flag → Gives f m x r
+    pub start : {g : Fields} {r : Stepped} → e ≡ Start → g ≡ i2c_moved f x 2 (I2cPhase.fields_of (Taking Word 0 0)) → r ≡ i2c_done g flag → Gives f m x (Some r)
     start k eg er = as_fields (advance Start (seen k)) refl refl refl refl (done_is er eg)
 
-    pub stop : {g : Fields} {r : Stepped} → e ≡ Stop → g ≡ i2c_moved f x 2 (only_tag 0) → r ≡ i2c_done g flag → Gives f m x r
+    pub stop : {g : Fields} {r : Stepped} → e ≡ Stop → g ≡ i2c_moved f x 2 (only_tag 0) → r ≡ i2c_done g flag → Gives f m x (Some r)
     stop k eg er = as_fields (advance Stop (seen k)) refl refl refl refl (done_is er eg)
 
     pub fall : {g : Fields} {r : Stepped} → e ≡ Fall
         → g ≡ i2c_moved f x (answer_number (answer_of (pulls_after p f.pins m (I2cPhase.phase_in f.phase)))) f.phase
         → r ≡ i2c_done g flag
-        → Gives f m x r
+        → Gives f m x (Some r)
     fall k eg er = as_fields (advance Fall (seen k)) refl refl refl (sym same.phase) (done_is er eg)
 
     pub rise : {b : Bool} {g : Fields} {r : Stepped} → e ≡ Rise b → f.phase.count < 8 → g ≡ i2c_moved f x f.driven (one_more f.phase b) → r ≡ i2c_done g flag
-        → Gives f m x r
+        → Gives f m x (Some r)
     rise {b} k h eg er =
         as_fields (advance (Rise b) (seen k)) (Bits.unwritten f.phase same.phase h (levels_of x).wp)
         (Bits.stays f.phase same.phase h p (i2c_in f).buffer) (sym same.driven)

@@ -7,7 +7,7 @@ use native.Mathlib.Omega.{arith}
 use Rattle.parts.specs.declared.part.Part.{Part}
 use Rattle.parts.specs.declared.status.Status.{Status}
 use Rattle.parts.specs.Table.{Fit}
-use Rattle.serial.specs.declared.write.Write.TheVariants.{Nothing}
+use Rattle.std.specs.Prelude.{None}
 use Rattle.serial.specs.Bits.{shifted}
 use Rattle.selection.specs.declared.phase.Field.{Field}
 use Rattle.selection.specs.declared.phase.Field.TheVariants.{Opcode, ReadAddress, FastAddress, WriteAddress, Dummy, Data, StatusByte}
@@ -73,7 +73,7 @@ module _ (p : Part) where
   bits_in_lem (Pending v a) h = absurd (omega arith)
 
 -- only a data byte that waits is written as CS# rises, and its tag is the last
-end_none : (p : Part) (st : Status) (ph : Phase) → (fields_of ph).tag < 0x34 → end_write p st ph ≡ Nothing
+end_none : (p : Part) (st : Status) (ph : Phase) → (fields_of ph).tag < 0x34 → end_write p st ph ≡ None
 end_none p st Rest h = refl
 end_none p st Ignoring h = refl
 end_none p st (Taking f n v) h = refl
@@ -81,7 +81,7 @@ end_none p st (Showing s k) h = refl
 end_none p st (Waiting a) h = refl
 end_none p st (Pending v a) h = absurd (omega arith)
 
-pub end_unwritten : (p : Part) (st : Status) (x : PhaseFields) → fields_of (phase_in x) ≡ x → x.tag < 0x34 → end_write p st (phase_in x) ≡ Nothing
+pub end_unwritten : (p : Part) (st : Status) (x : PhaseFields) → fields_of (phase_in x) ≡ x → x.tag < 0x34 → end_write p st (phase_in x) ≡ None
 end_unwritten p st x same h = end_none p st (phase_in x) (rw same h)
 
 -- fields that are those of the phase that they read as
@@ -94,7 +94,7 @@ module _ (p : Part) (x : PhaseFields) (same : fields_of (phase_in x) ≡ x) (h :
       let e = rw bits.kept at (one_more_lem p (bits_of (phase_in x)) (value_of (phase_in x)) b (phase_in x) bits.early) in
       sym (ap fields_of e ∙ bits.more b)
 
-  pub unwritten : (st : Status) (b : Bool) → rise_write p st (phase_in x) b ≡ Nothing
+  pub unwritten : (st : Status) (b : Bool) → rise_write p st (phase_in x) b ≡ None
   unwritten st b =
       rw bits.kept at (none_written p (bits_of (phase_in x)) (value_of (phase_in x)) b st (phase_in x) bits.early)
 

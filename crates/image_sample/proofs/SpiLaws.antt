@@ -12,8 +12,8 @@ use Rattle.parts.specs.declared.status.Status.{Status}
 use Rattle.parts.specs.Numbers.{answer_number}
 use Rattle.parts.specs.Status.{bit, status_byte}
 use Rattle.parts.specs.Table.{part_of}
+use Rattle.std.specs.Prelude.{None, Some, Option}
 use Rattle.serial.specs.declared.write.Write.{Write}
-use Rattle.serial.specs.declared.write.Write.TheVariants.{Nothing}
 use Rattle.trace.specs.declared.event.Event.TheVariants.{Sample}
 use Rattle.selection.specs.declared.edge.Edge.{Edge}
 use Rattle.selection.specs.declared.edge.Edge.TheVariants.{Select, Deselect, Rise, Fall, Quiet}
@@ -67,16 +67,16 @@ module _ (p : Part) (f : Fields) (x : ℕ) (m : List ℕ) (pre : Asked p f x m) 
   advance e k = rw (pre.3, pre.1, k)
 
   -- a step that writes nothing, on the fields
-  as_fields : {st : Status} {z : Bool} {shown : Answer} {ph : Phase} {w : Write} {flag : Bool} → advance_of (state_in f) m (Sample x) ≡ spi_sampled (state_in f) m flag (step_to st (levels_of x) z shown ph w)
-      → w ≡ Nothing
+  as_fields : {st : Status} {z : Bool} {shown : Answer} {ph : Phase} {w : Option Write} {flag : Bool} → advance_of (state_in f) m (Sample x) ≡ spi_sampled (state_in f) m flag (step_to st (levels_of x) z shown ph w)
+      → w ≡ None
       → {s : ℕ} → s ≡ status_byte st
       → {d : ℕ} → d ≡ answer_number shown
       → {y : ℕ} → y ≡ bit z
       → {q : PhaseFields} → q ≡ SpiPhase.fields_of ph
       → {r : Stepped} → r ≡ spi_done (spi_moved f x s d y q) (levels_of x) flag
-      → Gives f m x r
-  as_fields {st} {z} {shown} e none es ed ey eq er h = (
-    rw (er, e, es, ed, ey, eq, answer_back shown, spi_sample_same x pre.2),
+      → Gives f m x (Some r)
+  as_fields {st} {z} {shown} e none es ed ey eq er = (
+    rw (er, e, es, ed, ey, eq, answer_back shown, spi_sample_same x pre.2, pre.1, same.buffer, same.used),
     rw (e, none),
     rw e,
   )
@@ -89,12 +89,12 @@ module _ (p : Part) (f : Fields) (x : ℕ) (m : List ℕ) (pre : Asked p f x m) 
     done_is : {g g' : Fields} {r : Stepped} → r ≡ spi_done g l flag → g ≡ g' → r ≡ spi_done g' (levels_of x) (flag_of (levels_of f.last) (levels_of x))
     done_is er eg = rw (er, eg, ef, eb, el)
 
-    pub quiet : {g : Fields} {r : Stepped} → e ≡ Quiet → g ≡ spi_moved f x f.status f.driven f.asleep f.phase → r ≡ spi_done g l flag → Gives f m x r
+    pub quiet : {g : Fields} {r : Stepped} → e ≡ Quiet → g ≡ spi_moved f x f.status f.driven f.asleep f.phase → r ≡ spi_done g l flag → Gives f m x (Some r)
     quiet k eg er =
         as_fields (advance Quiet (seen k)) refl (sym same.status) (sym same.driven) (sym same.asleep) (sym same.phase) (done_is er eg)
 
     pub select : {g : Fields} {r : Stepped} → e ≡ Select → g ≡ spi_moved f x f.status 2 f.asleep (SpiPhase.fields_of (selected (eqb f.asleep 1))) → r ≡ spi_done g l flag
-        → Gives f m x r
+        → Gives f m x (Some r)
     select k eg er = as_fields (advance Select (seen k)) refl (sym same.status) refl (sym same.asleep) refl (done_is er eg)
 
     -- no data byte waits
@@ -102,7 +102,7 @@ module _ (p : Part) (f : Fields) (x : ℕ) (m : List ℕ) (pre : Asked p f x m) 
         → f.phase.tag < 0x34
         → g ≡ spi_moved f x (status_byte (status_after (status_in f.status) l.wp (SpiPhase.phase_in f.phase))) 2 (bit (asleep_after (eqb f.asleep 1) (SpiPhase.phase_in f.phase))) (only_tag 0)
         → r ≡ spi_done g l flag
-        → Gives f m x r
+        → Gives f m x (Some r)
     deselect k h eg er =
         as_fields (advance Deselect (seen k)) (Bits.end_unwritten p (status_in f.status) f.phase same.phase h) refl refl refl refl
         (done_is er (eg ∙ rw el))
@@ -110,12 +110,12 @@ module _ (p : Part) (f : Fields) (x : ℕ) (m : List ℕ) (pre : Asked p f x m) 
     pub fall : {g : Fields} {r : Stepped} → e ≡ Fall
         → g ≡ spi_moved f x f.status (answer_number (after_fall p (status_in f.status) m (SpiPhase.phase_in f.phase) (answer_in f.driven))) f.asleep f.phase
         → r ≡ spi_done g l flag
-        → Gives f m x r
+        → Gives f m x (Some r)
     fall k eg er = as_fields (advance Fall (seen k)) refl (sym same.status) refl (sym same.asleep) (sym same.phase) (done_is er eg)
 
     pub rise : {b : Bool} {g : Fields} {r : Stepped} {n : ℕ} → e ≡ Rise b → n ≡ early_at p f.phase.tag → f.phase.count < n → g ≡ spi_moved f x f.status f.driven f.asleep (one_more f.phase b)
         → r ≡ spi_done g l flag
-        → Gives f m x r
+        → Gives f m x (Some r)
     rise {b} k en few eg er =
         let h = rw en at few in
         as_fields (advance (Rise b) (seen k)) (Bits.unwritten p f.phase same.phase h (status_in f.status) b) (sym same.status)

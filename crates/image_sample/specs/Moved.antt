@@ -1,5 +1,5 @@
 -- The fields that a sample may change, beside those that it keeps. These definitions only say how the code puts them together.
-use Rattle.std.specs.Prelude.{ℕ, Bool, true}
+use Rattle.std.specs.Prelude.{ℕ, Bool}
 use Rattle.parts.specs.Numbers.{answer_number}
 use Rattle.selection.specs.declared.levels.Levels.{Levels}
 use Rattle.spi.specs.Show.{answer_at}
@@ -10,40 +10,16 @@ use Rattle.image_sample.specs.declared.stepped.Stepped.{Stepped}
 
 -- of an SPI part, after the sample x
 abbrev pub spi_moved : Fields → ℕ → ℕ → ℕ → ℕ → PhaseFields → Fields
-spi_moved f x status driven asleep phase =
-    record {
-      part = f.part;
-      pins = f.pins;
-      status = status;
-      power = 1;
-      last = x;
-      driven = driven;
-      asleep = asleep;
-      phase = phase;
-      buffer = 0;
-      used = 0;
-    }
+spi_moved f x status driven asleep phase = record f { status = status; last = x; driven = driven; asleep = asleep; phase = phase }
 
 -- its answer is at the levels now
 abbrev pub spi_done : Fields → Levels → Bool → Stepped
-spi_done f l flag = record { done = true; fields = f; answer = answer_number (answer_at l (answer_in f.driven)); flag = flag }
+spi_done f l flag = record { fields = f; answer = answer_number (answer_at l (answer_in f.driven)); flag = flag }
 
 -- of an I2C part: register and address buffer stay
 abbrev pub i2c_moved : Fields → ℕ → ℕ → PhaseFields → Fields
-i2c_moved f x driven phase =
-    record {
-      part = f.part;
-      pins = f.pins;
-      status = f.status;
-      power = 2;
-      last = x;
-      driven = driven;
-      asleep = 0;
-      phase = phase;
-      buffer = f.buffer;
-      used = f.used;
-    }
+i2c_moved f x driven phase = record f { last = x; driven = driven; phase = phase }
 
 -- its answer is what it drives
 abbrev pub i2c_done : Fields → Bool → Stepped
-i2c_done f flag = record { done = true; fields = f; answer = f.driven; flag = flag }
+i2c_done f flag = record { fields = f; answer = f.driven; flag = flag }

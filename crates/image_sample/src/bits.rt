@@ -10,11 +10,9 @@ fn counted(phase: PhaseFields, value: u32) -> PhaseFields
     ensures { result ≡ counted phase value }
 {
     PhaseFields {
-        tag: phase.tag,
         count: phase.count + 1,
         value,
-        address: phase.address,
-        detail: phase.detail,
+        ..phase
     }
 }
 
@@ -23,15 +21,10 @@ pub fn one_more(phase: PhaseFields, bit: bool) -> PhaseFields
     requires { (phase.count < 255) × (phase.value < 2147483648) }
     ensures { result ≡ one_more phase bit }
 {
-    if phase.tag < 0x10 {
-        return phase;
-    }
-    if phase.tag < 0x20 {
-        return counted(phase, serial::bits::shift_in(phase.value, bit));
-    }
-    if phase.tag < 0x30 {
-        counted(phase, phase.value)
-    } else {
-        phase
+    // tags of a state's image, by their first digit (docs/IMAGE.md)
+    match phase.tag {
+        0x10..=0x1F => counted(phase, serial::bits::shift_in(phase.value, bit)),
+        0x20..=0x2F => counted(phase, phase.value),
+        _ => phase,
     }
 }

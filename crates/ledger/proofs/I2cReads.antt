@@ -9,7 +9,8 @@ use lib.Dec.{ltb}
 use lib.ListN.{length, length-append, length-map}
 use borrow.Author.Tests.{lt-ltb, le-ltb}
 use Rattle.parts.specs.declared.part.Part.{Part}
-use Rattle.serial.specs.declared.write.Write.TheVariants as write
+use Rattle.std.specs.Prelude.{None}
+use Rattle.serial.specs.Write.{write_at}
 use Rattle.serial.specs.Address.{next_address}
 use Rattle.serial.specs.Bits.{shifted}
 use Rattle.transfer.specs.declared.buffer.AddressBuffer.{AddressBuffer}
@@ -119,7 +120,7 @@ module _ (p : Part) (pins : ℕ) where
   after_high a16 high (low ∷ vs) h hs = rw (address_after_lem p a16 high.bits low.bits h hs.0)
 
   after_data : (a v : ℕ) (wp : Bool) {ws us : List Store} → ws ≡ us
-      → stores_of (cond wp write.Nothing (write.Byte a v)) ++ ws ≡ cond wp us (record { address = a; value = v } ∷ us)
+      → stores_of (cond wp None (write_at a v)) ++ ws ≡ cond wp us (record { address = a; value = v } ∷ us)
   after_data a v true e = e
   after_data a v false e = rw e
 

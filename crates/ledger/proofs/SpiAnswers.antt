@@ -12,7 +12,7 @@ use Rattle.parts.specs.declared.part.Part.{Part}
 use Rattle.parts.specs.declared.status.Status.{Status}
 use Rattle.parts.specs.Numbers.{answer_number}
 use Rattle.parts.specs.Table.{Fit}
-use Rattle.serial.specs.declared.write.Write.TheVariants.{Nothing}
+use Rattle.std.specs.Prelude.{None}
 use Rattle.serial.specs.Write.{applied}
 use Rattle.selection.specs.declared.edge.Edge.{Edge}
 use Rattle.selection.specs.declared.edge.Edge.TheVariants.{Select, Deselect, Rise, Fall, Quiet}
@@ -79,7 +79,7 @@ module _ (p : Part) where
   goes_on (Pending v a) x h = refl
 
   -- and stores nothing
-  no_write : (st : Status) (ph : Phase) (x : Bool) → is_showing ph ≡ true → rise_write p st ph x ≡ Nothing
+  no_write : (st : Status) (ph : Phase) (x : Bool) → is_showing ph ≡ true → rise_write p st ph x ≡ None
   no_write st Rest x h = refl
   no_write st Ignoring x h = refl
   no_write st (Taking f n v) x h = absurd (false≢true h)

@@ -11,7 +11,8 @@ use borrow.Author.Tests.{lt-ltb, le-ltb}
 use Rattle.parts.specs.declared.part.Part.{Part}
 use Rattle.parts.specs.declared.status.Status.{Status}
 use Rattle.parts.specs.Status.{protected_start}
-use Rattle.serial.specs.declared.write.Write.TheVariants.{Nothing, Byte}
+use Rattle.std.specs.Prelude.{None}
+use Rattle.serial.specs.Write.{write_at}
 use Rattle.serial.specs.Address.{next_address}
 use Rattle.serial.specs.Bits.{shifted}
 use Rattle.selection.specs.declared.opcode.Command.{Command}
@@ -93,7 +94,7 @@ unless_off (v ∷ vs) = refl
 
 -- one byte, unprotected (t) or not, before others
 one_byte : (e t : Bool) (a v : ℕ) (ws : List Store)
-    → stores_of (cond (e && t) (Byte a v) Nothing) ++ cond e ws [] ≡ cond e (cond t (record { address = a; value = v } ∷ ws) ws) []
+    → stores_of (cond (e && t) (write_at a v) None) ++ cond e ws [] ≡ cond e (cond t (record { address = a; value = v } ∷ ws) ws) []
 one_byte true true a v ws = refl
 one_byte true false a v ws = refl
 one_byte false t a v ws = refl
@@ -139,7 +140,7 @@ module _ (p : Part) (b : SavedBits) (e wp : Bool) where
 
   -- ---- a field, all but a data byte: short of its width it does nothing, and whole it begins what follows
 
-  module _ (f : Field) (still : (n v : ℕ) (x : Bool) → field_write p (register b e) f n v x ≡ Nothing) where
+  module _ (f : Field) (still : (n v : ℕ) (x : Bool) → field_write p (register b e) f n v x ≡ None) where
     abbrev taken : ℕ → FieldBits → Effect
     taken v (short xs) = does (Taking f 0 0) []
     taken v (whole xs rest) = does (phase_after_field p f (number_after v xs)) rest
@@ -200,7 +201,7 @@ module _ (p : Part) (b : SavedBits) (e wp : Bool) where
   -- its last bit makes it whole: on a part that stores late (t) it then waits, on any other it is stored
   abbrev finished : Bool → ℕ → ℕ → List Bool → Effect
   finished t a v bs =
-      following (stores_of (cond t Nothing (permitted p (register b e) a v))) (does (cond t (Pending v a) (Taking (data_after p a) 0 0)) bs)
+      following (stores_of (cond t None (permitted p (register b e) a v))) (does (cond t (Pending v a) (Taking (data_after p a) 0 0)) bs)
 
   last_bit_lem : (t : Bool) → p.late ≡ t → (x : Bool) (bs xs : List Bool) (a n : ℕ) (w : Bool) → n ≡ 7
       → does (Taking (Data a w) n (number xs)) (x ∷ bs) ≡ finished t a (number (xs ++ (x ∷ []))) bs

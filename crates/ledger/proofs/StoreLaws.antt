@@ -8,26 +8,26 @@ use lib.Dec.{eqb}
 use lib.ListN.{length, set, get_or, length-set}
 use lib.Seq.{get_or-set_same, get_or-set_other, lt-length-set}
 use borrow.Author.Tests.{eqb-true, eqb-false}
+use Rattle.std.specs.Prelude.{None, Option, Some}
 use Rattle.serial.specs.declared.write.Write.{Write}
-use Rattle.serial.specs.declared.write.Write.TheVariants.{Nothing, Byte}
 use Rattle.serial.specs.Write.{applied}
 use Rattle.ledger.specs.Stores.{Store, last_at, stored}
 
 -- what a sample writes, as stores
-abbrev pub stores_of : Write → List Store
-stores_of Nothing = []
-stores_of (Byte a v) = record { address = a; value = v } ∷ []
+abbrev pub stores_of : Option Write → List Store
+stores_of None = []
+stores_of (Some w) = record { address = w.address; value = w.value } ∷ []
 
-pub applied_stored : (w : Write) (m : List ℕ) → applied w m ≡ stored m (stores_of w)
-applied_stored Nothing m = refl
-applied_stored (Byte a v) m = refl
+pub applied_stored : (w : Option Write) (m : List ℕ) → applied w m ≡ stored m (stores_of w)
+applied_stored None m = refl
+applied_stored (Some w) m = refl
 
 pub stored_append : (m : List ℕ) (ws us : List Store) → stored m (ws ++ us) ≡ stored (stored m ws) us
 stored_append m [] us = refl
 stored_append m (w ∷ ws) us = stored_append (set m w.address w.value) ws us
 
 -- a write after stores is one store more
-pub applied_after : (m : List ℕ) (ws : List Store) (w : Write) → applied w (stored m ws) ≡ stored m (ws ++ stores_of w)
+pub applied_after : (m : List ℕ) (ws : List Store) (w : Option Write) → applied w (stored m ws) ≡ stored m (ws ++ stores_of w)
 applied_after m ws w = applied_stored w (stored m ws) ∙ sym (stored_append m ws (stores_of w))
 
 pub length_stored : (m : List ℕ) (ws : List Store) → length (stored m ws) ≡ length m

@@ -1,27 +1,17 @@
 -- A making that is accepted is run, and a refused one is not; so the counts of a run hold of both. Assumes nothing.
 use Prim.Native.Nat.{ℕ}
-use mathlib.Core.Path.{◌≡◌, refl}
+use mathlib.Core.Path.{refl}
 use mathlib.Core.Bool.{Bool, true, false, cond}
 use mathlib.Core.List.{List}
 use native.Mathlib.Omega.{arith}
 use lib.Dec.{eqb}
 use lib.ListN.{length}
-use borrow.Author.Tests.{eq-eqb, ne_eqb}
-use Rattle.model.specs.declared.make.Made.{Made}
+use Rattle.model.specs.Made.{Made}
 use Rattle.model.specs.Make.{make_of}
 use Rattle.runs.specs.Run.{stop, run_of}
 use Rattle.runs.specs.Rules.{Counted}
 use Rattle.runs.proofs.RunCounts.{run_counted}
 use Rattle.made.specs.MadeRun.{made_run}
-
-module _ (part pins bits quota : ℕ) (t m : List ℕ) (made : Made) (e : made ≡ make_of part pins bits) where
-  pub made_ran : made.number ≡ 0 → made_run part pins bits quota t m ≡ run_of quota t made.model m
-  unfolding made_run
-  made_ran z = rw (← e, eq-eqb _ _ z)
-
-  pub made_refused : (made.number ≡ 0 → ⊥) → made_run part pins bits quota t m ≡ stop made.number t made.model m
-  unfolding made_run
-  made_refused z = rw (← e, ne_eqb _ _ z)
 
 pub made_counted : (part pins bits quota : ℕ) (t m : List ℕ) → Counted (length t) (made_run part pins bits quota t m)
 unfolding made_run

@@ -1,6 +1,6 @@
 -- A making and a run in one: a refused making runs nothing.
 use Rattle.std.specs.Prelude.{ℕ, cond, List, eqb}
-use Rattle.model.specs.declared.make.Made.{Made}
+use Rattle.model.specs.Made.{Made}
 use Rattle.model.specs.Make.{make_of}
 use Rattle.runs.specs.Run.{Run, stop, run_of}
 

@@ -3,12 +3,14 @@
 
 ghost use Rattle.std.specs.Prelude.{◌≡◌};
 ghost use Rattle.std.proofs.lemmas.List.Edits.{sets};
+ghost use Rattle.runs.specs.Figures.{figures_of};
 ghost use Rattle.runs.specs.Run.{ran_of};
 ghost use Rattle.made.specs.MadeRun.{made_run};
 
 use runs::run::Ran;
 
-// If the making is refused nothing is run: its number and its model come back, with count and offset 0 and no flag.
+// If the making is refused nothing is run: its refusal and the model that stands for it come back, with count and offset 0 and no flag.
+#[tactic(auto, unfolding(crate::specs::MadeRun::made_run))]
 pub fn replay_made(
     part: u32,
     pins: u32,
@@ -18,15 +20,12 @@ pub fn replay_made(
     memory: &mut [u8],
     answers: &mut [u8],
 ) -> Ran
-    ensures ran { result ≡ ran_of (made_run part pins bits quota trace.now memory.old) }
+    ensures ran { figures_of result ≡ ran_of (made_run part pins bits quota trace.now memory.old) }
     ensures memory { memory.new ≡ (made_run part pins bits quota trace.now memory.old).memory }
     ensures answers { answers.new ≡ sets answers.old 0 (made_run part pins bits quota trace.now memory.old).answers }
 {
-    let made = model::make::make(part, pins, bits);
-    let start = made.model;
-    if made.number == 0 {
-        model::run::replay(start, trace, quota, memory, answers)
-    } else {
-        runs::run::ended(made.number, start, 0, 0, trace.len())
+    match model::make::make(part, pins, bits) {
+        Ok(model) => model::run::replay(model, trace, quota, memory, answers),
+        Err(refusal) => runs::run::refused(refusal, model::make::unmade(), trace.len()),
     }
 }

@@ -7,7 +7,7 @@ use Rattle.parts.specs.Numbers.{refusal_number}
 use Rattle.parts.specs.Status.{cleared}
 use Rattle.parts.specs.Table.{part_of}
 use Rattle.chip.specs.Model.{unpowered}
-use Rattle.model.specs.declared.make.Made.{Made}
+use Rattle.model.specs.Made.{Made}
 
 -- the register at a making, by its three saved bits from the highest down: SRWD, BP1, BP0; WEL is 0
 abbrev pub status_of : ℕ → Status

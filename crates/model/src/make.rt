@@ -1,18 +1,14 @@
 // Making a model.
 ghost use Rattle.std.specs.Prelude.{◌≡◌, ◌<◌};
+ghost use Rattle.chip.specs.Model.{unpowered};
+ghost use Rattle.parts.specs.Status.{cleared};
+ghost use Rattle.model.specs.Made.{made_of};
 ghost use Rattle.model.specs.Make.{status_of, settings_in, make_in, make_of};
 
 use chip::model::Model;
-use parts::part::Part;
+use parts::part::{PARTS, Part};
 use parts::refusal::Refusal;
 use parts::status::Status;
-
-// Number or 0, and the model.
-#[derive(Clone, Copy)]
-pub struct Made {
-    pub number: u8,
-    pub model: Model,
-}
 
 // The register that holds saved bits.
 fn status_of(bits: u32) -> Status
@@ -30,36 +26,30 @@ fn status_of(bits: u32) -> Status
 fn settings_in(part: Part, pins: u32, bits: u32) -> bool
     ensures { result ≡ settings_in part pins bits }
 {
-    if pins < part.pins as u32 {
-        if part.saved { bits < 8 } else { bits < 1 }
-    } else {
-        false
-    }
+    let limit = if part.saved { 8 } else { 1 };
+    pins < u32::from(part.pins) && bits < limit
 }
 
 fn make_in(part: u32, pins: u32, bits: u32) -> bool
     ensures { result ≡ make_in part pins bits }
 {
-    if part < 5 {
-        settings_in(parts::part::part_of(part as usize), pins, bits)
-    } else {
-        false
-    }
+    (part as usize) < PARTS.len() && settings_in(parts::part::part_of(part as usize), pins, bits)
 }
 
-// A model without power, or number 1 with the model of part 0.
-pub fn make(part: u32, pins: u32, bits: u32) -> Made
-    ensures { result ≡ make_of part pins bits }
+// A model without power, or 1.
+#[tactic(auto, unfolding(crate::specs::Make::make_of))]
+pub fn make(part: u32, pins: u32, bits: u32) -> Result<Model, Refusal>
+    ensures { made_of result ≡ make_of part pins bits }
 {
-    if make_in(part, pins, bits) {
-        let status = status_of(bits);
-        let model = chip::model::unpowered(part, pins, status);
-        Made { number: 0, model }
-    } else {
-        let model = chip::model::unpowered(0, 0, Status::cleared());
-        Made {
-            number: Refusal::ModelRange.number(),
-            model,
-        }
+    if !make_in(part, pins, bits) {
+        return Err(Refusal::ModelRange);
     }
+    Ok(chip::model::unpowered(part, pins, status_of(bits)))
+}
+
+// The model that stands for a refused making where one has to come back: part 0.
+pub fn unmade() -> Model
+    ensures { result ≡ unpowered 0 0 cleared }
+{
+    chip::model::unpowered(0, 0, Status::CLEARED)
 }

@@ -2,7 +2,7 @@
 ghost use Rattle.std.specs.Prelude.{◌≡◌, ◌<◌};
 ghost use Rattle.parts.specs.Table.{is_spi, part_of};
 
-#[derive(Clone, Copy)]
+#[derive(Clone, Copy, Debug, PartialEq, Eq)]
 pub enum Bus {
     Spi,
     I2c,
@@ -12,14 +12,11 @@ impl Bus {
     pub fn is_spi(self) -> bool
         ensures { result ≡ is_spi self }
     {
-        match self {
-            Bus::Spi => true,
-            Bus::I2c => false,
-        }
+        self == Bus::Spi
     }
 }
 
-#[derive(Clone, Copy)]
+#[derive(Clone, Copy, Debug, PartialEq, Eq)]
 pub struct Part {
     pub bus: Bus,
     // bytes of memory
@@ -116,18 +113,12 @@ pub const PARTS: [Part; 5] = [
     },
 ];
 
-// The part of a number below 5. Each row by a constant index: with a number that is known only when it runs, the whole table would be
-// written down anew at each call.
+// The part of a number below 5. The rows are read from a static: of a constant the whole table would be written down anew at each call,
+// since the number is known only when it runs.
 pub fn part_of(number: usize) -> Part
     requires { number < 5 }
     ensures { result ≡ part_of number }
 {
-    let rows = PARTS;
-    match number {
-        0 => rows[0],
-        1 => rows[1],
-        2 => rows[2],
-        3 => rows[3],
-        _ => rows[4],
-    }
+    static ROWS: [Part; 5] = PARTS;
+    ROWS[number]
 }

@@ -6,7 +6,7 @@ use mathlib.Core.Bool.{Bool, true, false}
 use native.Mathlib.Omega.{arith}
 use borrow.Author.Tests.{lt-ltb, le-ltb}
 use Rattle.parts.specs.declared.part.Part.{Part}
-use Rattle.serial.specs.declared.write.Write.TheVariants.{Nothing}
+use Rattle.std.specs.Prelude.{None}
 use Rattle.serial.specs.Bits.{shifted}
 use Rattle.serial.proofs.BitLaws.{small}
 use Rattle.transfer.specs.declared.buffer.AddressBuffer.{AddressBuffer}
@@ -41,7 +41,7 @@ module _ (n v : ℕ) (few : n < 8) where
   one_more_lem p pins b line (Taking f m u) = rw (lt-ltb n 8 few)
   one_more_lem p pins b line (Sending a m) = rw (lt-ltb n 8 few)
 
-  pub none_written : (wp : Bool) (ph : Phase) → rise_write (with_bits ph n v) wp ≡ Nothing
+  pub none_written : (wp : Bool) (ph : Phase) → rise_write (with_bits ph n v) wp ≡ None
   none_written wp Rest = refl
   none_written wp Ignoring = refl
   none_written wp (Taking f m u) = rw (lt-ltb n 8 few)

@@ -13,7 +13,7 @@ use denote.Enum.Declared.{tag_of}
 use Rattle.parts.specs.declared.part.Part.{Part}
 use Rattle.parts.specs.declared.status.Status.{Status}
 use Rattle.parts.specs.Table.{Fit}
-use Rattle.serial.specs.declared.write.Write.TheVariants.{Nothing}
+use Rattle.std.specs.Prelude.{None, Some, Option}
 use Rattle.serial.specs.Bits.{shifted}
 use Rattle.serial.proofs.BitLaws.{shifted_within, small}
 use Rattle.selection.specs.declared.opcode.Command.{Command}
@@ -27,15 +27,13 @@ use Rattle.selection.specs.Phase.{width, phase_after_opcode, data_after, phase_a
 use Rattle.selection.specs.Ranges.{PhaseIn}
 use Rattle.selection.specs.contracts.phase.Field as field
 use Rattle.selection.specs.contracts.phase.Phase as phase
-use Rattle.phase_bits.specs.declared.field.Coming.{Coming}
-use Rattle.phase_bits.specs.declared.field.Coming.TheVariants.{DataByte, Other}
 use Rattle.spi.specs.Sample.{selected}
 use Rattle.spi.specs.Store.{permitted, field_write, rise_write}
 use Rattle.phase_bits.specs.Field.{field_coming, coming_of, bits_of, value_of, ByteIn, kept_of, early_in, early_of, taken_bits, with_bits, next_bits, next_value}
 
 -- ---- what comes in
 
-pub no_field : (ph : Phase) → OneOf (0 ∷ 1 ∷ 3 ∷ 4 ∷ 5 ∷ []) (tag_of phase.the_type ph) → coming_of ph ≡ Other
+pub no_field : (ph : Phase) → OneOf (0 ∷ 1 ∷ 3 ∷ 4 ∷ 5 ∷ []) (tag_of phase.the_type ph) → coming_of ph ≡ None
 no_field Rest h = refl
 no_field Ignoring h = refl
 no_field (Taking f n v) h = absurd (miss (0 ∷ 1 ∷ 3 ∷ 4 ∷ 5 ∷ []) 2 tt h)
@@ -43,7 +41,7 @@ no_field (Showing s k) h = refl
 no_field (Waiting a) h = refl
 no_field (Pending v a) h = refl
 
-pub no_data : (f : Field) → OneOf (0 ∷ 1 ∷ 2 ∷ 3 ∷ 4 ∷ 6 ∷ []) (tag_of field.the_type f) → field_coming f ≡ Other
+pub no_data : (f : Field) → OneOf (0 ∷ 1 ∷ 2 ∷ 3 ∷ 4 ∷ 6 ∷ []) (tag_of field.the_type f) → field_coming f ≡ None
 no_data Opcode h = refl
 no_data ReadAddress h = refl
 no_data FastAddress h = refl
@@ -52,7 +50,7 @@ no_data (Dummy a) h = refl
 no_data (Data a w) h = absurd (miss (0 ∷ 1 ∷ 2 ∷ 3 ∷ 4 ∷ 6 ∷ []) 5 tt h)
 no_data StatusByte h = refl
 
-other_not_data : (a : ℕ) → ◌≡◌ {A = Coming} Other (DataByte a) → ⊥
+other_not_data : (a : ℕ) → ◌≡◌ {A = Option ℕ} None (Some a) → ⊥
 other_not_data a e = let z : ◌≡◌ {A = ℕ} 0 1 = cc in absurd (omega arith)
 
 -- ---- put together
@@ -64,15 +62,6 @@ not_eight a n v w h = rw (ne_eqb n 8 (λ e. absurd (omega arith)))
 -- the fields besides a data byte
 abbrev others : List ℕ
 others = 0 ∷ 1 ∷ 2 ∷ 3 ∷ 4 ∷ 6 ∷ []
-
-pub other_bits : (f : Field) (n v : ℕ) → OneOf others (tag_of field.the_type f) → taken_bits f n v ≡ Taking f n v
-other_bits Opcode n v h = refl
-other_bits ReadAddress n v h = refl
-other_bits FastAddress n v h = refl
-other_bits WriteAddress n v h = refl
-other_bits (Dummy a) n v h = refl
-other_bits (Data a w) n v h = absurd (miss others 5 tt h)
-other_bits StatusByte n v h = refl
 
 same_taken : (p : Part) (f : Field) (n v : ℕ) → n < width p f → taken_bits f n v ≡ Taking f n v
 same_taken p Opcode n v h = refl
@@ -105,10 +94,10 @@ module _ (p : Part) (n v : ℕ) (b : Bool) where
   -- what it makes of a field, and writes: nothing
   record Adds (f : Field) : Type 0 where
     phase : after_rise p (taken_bits f n v) b ≡ taken_bits f (n + 1) (shifted v b)
-    write : (st : Status) → rise_write p st (taken_bits f n v) b ≡ Nothing
+    write : (st : Status) → rise_write p st (taken_bits f n v) b ≡ None
 
   adds_plain : (f : Field) → n + 1 < width p f → taken_bits f n v ≡ Taking f n v → taken_bits f (n + 1) (shifted v b) ≡ Taking f (n + 1) (shifted v b)
-      → ((st : Status) → field_write p st f n v b ≡ Nothing) → Adds f
+      → ((st : Status) → field_write p st f n v b ≡ None) → Adds f
   adds_plain f l q q' none = record { phase = rw (q, q', lt-ltb (n + 1) (width p f) l); write = λ st. rw q (none st) }
 
   -- a data byte before its eighth bit
@@ -122,7 +111,7 @@ module _ (p : Part) (n v : ℕ) (b : Bool) where
       let q = not_eight a n v w (omega arith) in
       record {
         phase = rw (q, e) (ap (λ (t : Bool). cond t (Pending (shifted v b) a) (Taking (data_after p a) 0 0)) late);
-        write = λ st. rw (q, e) (ap (λ (t : Bool). cond t Nothing (permitted p st a (shifted v b))) late);
+        write = λ st. rw (q, e) (ap (λ (t : Bool). cond t None (permitted p st a (shifted v b))) late);
       }
 
   adds_late : (t : Bool) → p.late ≡ t → (a : ℕ) (w : Bool) → n < cond t 8 7 → Adds (Data a w)
@@ -150,7 +139,7 @@ module _ (p : Part) (n v : ℕ) (b : Bool) where
   one_more_lem (Waiting a) l = refl
   one_more_lem (Pending u a) l = absurd (omega arith)
 
-  pub none_written : (st : Status) (ph : Phase) → n < early_of p ph → rise_write p st (with_bits ph n v) b ≡ Nothing
+  pub none_written : (st : Status) (ph : Phase) → n < early_of p ph → rise_write p st (with_bits ph n v) b ≡ None
   none_written st Rest l = refl
   none_written st Ignoring l = refl
   none_written st (Taking f m u) l = (adds f l).write st
@@ -231,7 +220,7 @@ module _ (p : Part) (st : Status) (a v : ℕ) (b : Bool) where
       record {
         small = omega arith;
         byte = rw q (shifted_within 7 v b h);
-        write = ap (λ (t : Bool). cond t Nothing (permitted p st a (shifted v b))) e ∙ ap (permitted p st a) (sym q);
+        write = ap (λ (t : Bool). cond t None (permitted p st a (shifted v b))) e ∙ ap (permitted p st a) (sym q);
         phase = sym (ap (λ (t : Bool). cond t (Pending (shifted v b) a) (Taking (data_after p a) 0 0)) e);
       }
 
@@ -257,23 +246,8 @@ module _ (p : Part) (st : Status) (a v : ℕ) (b : Bool) where
           let s : v < 2 ^ 7 = rw q.1 at h in
           rw q.1 (due_last w q.0 s)
 
--- where something else comes in, a kept phase writes nothing
-pub other_none : (p : Part) (st : Status) (n v : ℕ) (b : Bool) (ph : Phase) → kept_of ph ≡ ph → coming_of ph ≡ Other → rise_write p st (with_bits ph n v) b ≡ Nothing
-other_none p st n v b Rest k e = refl
-other_none p st n v b Ignoring k e = refl
-other_none p st n v b (Taking Opcode m u) k e = refl
-other_none p st n v b (Taking ReadAddress m u) k e = refl
-other_none p st n v b (Taking FastAddress m u) k e = refl
-other_none p st n v b (Taking WriteAddress m u) k e = refl
-other_none p st n v b (Taking (Dummy a) m u) k e = refl
-other_none p st n v b (Taking (Data a w) m u) k e = absurd (other_not_data a (sym e))
-other_none p st n v b (Taking StatusByte m u) k e = refl
-other_none p st n v b (Showing s m) k e = refl
-other_none p st n v b (Waiting a) k e = refl
-other_none p st n v b (Pending u a) k e = let z : ◌≡◌ {A = ℕ} 0 1 = cc in absurd (omega arith)
-
 -- where a data byte comes in, what is due
-pub data_due : (p : Part) (st : Status) (a n v : ℕ) (b : Bool) (ph : Phase) → coming_of ph ≡ DataByte a → early_of p ph ≤ n → v < 2 ^ n
+pub data_due : (p : Part) (st : Status) (a n v : ℕ) (b : Bool) (ph : Phase) → coming_of ph ≡ Some a → early_of p ph ≤ n → v < 2 ^ n
     → PhaseIn p (with_bits ph n v) → Due p st a n v b (with_bits ph n v) × (a < p.size)
 data_due p st a n v b (Taking (Data x w) m u) e l h k =
     let z : x ≡ a = cc in

@@ -1,32 +1,30 @@
 -- The bits of an SPI part's field or byte apart from its phase, which is how the loop keeps them: most rises change nothing else. A data
 -- byte that waits is kept as one whose eight bits are in. These definitions only say how the code takes such rises.
-use Rattle.std.specs.Prelude.{ℕ, ◌-◌, ◌<◌, Bool, true, cond, eqb}
+use Rattle.std.specs.Prelude.{ℕ, ◌-◌, ◌<◌, Bool, true, cond, eqb, Option, Some, None}
 use Rattle.parts.specs.declared.part.Part.{Part}
 use Rattle.serial.specs.Bits.{shifted}
 use Rattle.selection.specs.declared.phase.Field.{Field}
 use Rattle.selection.specs.declared.phase.Field.TheVariants.{Opcode, ReadAddress, FastAddress, WriteAddress, Dummy, Data, StatusByte}
 use Rattle.selection.specs.declared.phase.Phase.{Phase}
 use Rattle.selection.specs.declared.phase.Phase.TheVariants.{Rest, Ignoring, Taking, Showing, Waiting, Pending}
-use Rattle.phase_bits.specs.declared.field.Coming.{Coming}
-use Rattle.phase_bits.specs.declared.field.Coming.TheVariants.{DataByte, Other}
 
--- what comes in
-abbrev pub field_coming : Field → Coming
-field_coming Opcode = Other
-field_coming ReadAddress = Other
-field_coming FastAddress = Other
-field_coming WriteAddress = Other
-field_coming (Dummy a) = Other
-field_coming (Data a w) = DataByte a
-field_coming StatusByte = Other
+-- the address of a data byte of WRITE that comes in
+abbrev pub field_coming : Field → Option ℕ
+field_coming Opcode = None
+field_coming ReadAddress = None
+field_coming FastAddress = None
+field_coming WriteAddress = None
+field_coming (Dummy a) = None
+field_coming (Data a w) = Some a
+field_coming StatusByte = None
 
-abbrev pub coming_of : Phase → Coming
-coming_of Rest = Other
-coming_of Ignoring = Other
+abbrev pub coming_of : Phase → Option ℕ
+coming_of Rest = None
+coming_of Ignoring = None
 coming_of (Taking f n v) = field_coming f
-coming_of (Showing s k) = Other
-coming_of (Waiting a) = Other
-coming_of (Pending v a) = Other
+coming_of (Showing s k) = None
+coming_of (Waiting a) = None
+coming_of (Pending v a) = None
 
 -- how many bits are in or have been shown
 abbrev pub bits_of : Phase → ℕ

@@ -10,14 +10,8 @@ pub fn bits_of(phase: Phase) -> u8
     ensures { result ≡ bits_of phase }
 {
     match phase {
-        Phase::Rest => 0,
-        Phase::Ignoring => 0,
-        Phase::Taking {
-            field: _,
-            count,
-            value: _,
-        } => count,
-        Phase::Sending { address: _, count } => count,
+        Phase::Rest | Phase::Ignoring => 0,
+        Phase::Taking { count, .. } | Phase::Sending { count, .. } => count,
     }
 }
 
@@ -26,17 +20,8 @@ pub fn value_of(phase: Phase) -> u32
     ensures { result ≡ value_of phase }
 {
     match phase {
-        Phase::Rest => 0,
-        Phase::Ignoring => 0,
-        Phase::Taking {
-            field: _,
-            count: _,
-            value,
-        } => value,
-        Phase::Sending {
-            address: _,
-            count: _,
-        } => 0,
+        Phase::Taking { value, .. } => value,
+        _ => 0,
     }
 }
 
@@ -45,18 +30,13 @@ pub fn with_bits(phase: Phase, bits: u8, value: u32) -> Phase
     ensures { result ≡ with_bits phase bits value }
 {
     match phase {
-        Phase::Rest => phase,
-        Phase::Ignoring => phase,
-        Phase::Taking {
-            field,
-            count: _,
-            value: _,
-        } => Phase::Taking {
+        Phase::Rest | Phase::Ignoring => phase,
+        Phase::Taking { field, .. } => Phase::Taking {
             field,
             count: bits,
             value,
         },
-        Phase::Sending { address, count: _ } => Phase::Sending {
+        Phase::Sending { address, .. } => Phase::Sending {
             address,
             count: bits,
         },

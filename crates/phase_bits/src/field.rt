@@ -8,28 +8,17 @@ ghost use Rattle.phase_bits.specs.Field.{coming_of, bits_of, value_of, ByteIn, k
 use parts::part::Part;
 use selection::phase::{Field, Phase};
 
-// What comes in: a data byte of WRITE, or anything else.
-#[derive(Clone, Copy)]
-pub enum Coming {
-    DataByte { address: u32 },
-    Other,
-}
-
-pub fn coming_in(phase: Phase) -> Coming
+// The address of the data byte of WRITE that comes in, if one does.
+pub fn coming_in(phase: Phase) -> Option<u32>
     ensures { result ≡ coming_of phase }
 {
-    let Phase::Taking {
-        field,
-        count: _,
-        value: _,
-    } = phase
-    else {
-        return Coming::Other;
-    };
-    let Field::Data { address, whole: _ } = field else {
-        return Coming::Other;
-    };
-    Coming::DataByte { address }
+    match phase {
+        Phase::Taking {
+            field: Field::Data { address, .. },
+            ..
+        } => Some(address),
+        _ => None,
+    }
 }
 
 // How many bits are in or have been shown.
@@ -37,19 +26,10 @@ pub fn bits_of(phase: Phase) -> u8
     ensures { result ≡ bits_of phase }
 {
     match phase {
-        Phase::Rest => 0,
-        Phase::Ignoring => 0,
-        Phase::Taking {
-            field: _,
-            count,
-            value: _,
-        } => count,
-        Phase::Showing { source: _, bit } => bit,
-        Phase::Waiting { action: _ } => 0,
-        Phase::Pending {
-            byte: _,
-            address: _,
-        } => 8,
+        Phase::Rest | Phase::Ignoring | Phase::Waiting { .. } => 0,
+        Phase::Taking { count, .. } => count,
+        Phase::Showing { bit, .. } => bit,
+        Phase::Pending { .. } => 8,
     }
 }
 
@@ -58,16 +38,9 @@ pub fn value_of(phase: Phase) -> u32
     ensures { (result ≡ value_of phase) × ByteIn phase }
 {
     match phase {
-        Phase::Rest => 0,
-        Phase::Ignoring => 0,
-        Phase::Taking {
-            field: _,
-            count: _,
-            value,
-        } => value,
-        Phase::Showing { source: _, bit: _ } => 0,
-        Phase::Waiting { action: _ } => 0,
-        Phase::Pending { byte, address: _ } => byte as u32,
+        Phase::Taking { value, .. } => value,
+        Phase::Pending { byte, .. } => u32::from(byte),
+        _ => 0,
     }
 }
 
@@ -76,19 +49,11 @@ pub fn kept_of(phase: Phase) -> Phase
     ensures { result ≡ kept_of phase }
 {
     match phase {
-        Phase::Rest => phase,
-        Phase::Ignoring => phase,
-        Phase::Taking {
-            field: _,
-            count: _,
-            value: _,
-        } => phase,
-        Phase::Showing { source: _, bit: _ } => phase,
-        Phase::Waiting { action: _ } => phase,
-        Phase::Pending { byte: _, address } => selection::rise::taking(Field::Data {
+        Phase::Pending { address, .. } => selection::rise::taking(Field::Data {
             address,
             whole: true,
         }),
+        _ => phase,
     }
 }
 
@@ -98,16 +63,9 @@ fn early_in(part: Part, field: Field) -> u8
     ensures { result ≡ early_in part field }
 {
     match field {
-        Field::Opcode => 7,
-        Field::ReadAddress => part.width - 1,
-        Field::FastAddress => part.width - 1,
-        Field::WriteAddress => part.width - 1,
-        Field::Dummy { address: _ } => 7,
-        Field::Data {
-            address: _,
-            whole: _,
-        } => { if part.late { 8 } else { 7 } }
-        Field::StatusByte => 7,
+        Field::ReadAddress | Field::FastAddress | Field::WriteAddress => part.width - 1,
+        Field::Data { .. } if part.late => 8,
+        Field::Opcode | Field::Dummy { .. } | Field::Data { .. } | Field::StatusByte => 7,
     }
 }
 
@@ -117,19 +75,9 @@ pub fn early_of(part: Part, phase: Phase) -> u8
     ensures { result ≡ early_of part phase }
 {
     match phase {
-        Phase::Rest => 7,
-        Phase::Ignoring => 7,
-        Phase::Taking {
-            field,
-            count: _,
-            value: _,
-        } => early_in(part, field),
-        Phase::Showing { source: _, bit: _ } => 7,
-        Phase::Waiting { action: _ } => 7,
-        Phase::Pending {
-            byte: _,
-            address: _,
-        } => 0,
+        Phase::Taking { field, .. } => early_in(part, field),
+        Phase::Pending { .. } => 0,
+        _ => 7,
     }
 }
 
@@ -138,24 +86,16 @@ fn taken_bits(field: Field, bits: u8, value: u32) -> Phase
     requires { value < 2 ^ bits }
     ensures { result ≡ taken_bits field bits value }
 {
-    let Field::Data { address, whole: _ } = field else {
-        return Phase::Taking {
-            field,
-            count: bits,
-            value,
-        };
-    };
-    if bits == 8 {
-        Phase::Pending {
+    match field {
+        Field::Data { address, .. } if bits == 8 => Phase::Pending {
             byte: value as u8,
             address,
-        }
-    } else {
-        Phase::Taking {
+        },
+        _ => Phase::Taking {
             field,
             count: bits,
             value,
-        }
+        },
     }
 }
 
@@ -165,19 +105,9 @@ pub fn with_bits(phase: Phase, bits: u8, value: u32) -> Phase
     ensures { result ≡ with_bits phase bits value }
 {
     match phase {
-        Phase::Rest => phase,
-        Phase::Ignoring => phase,
-        Phase::Taking {
-            field,
-            count: _,
-            value: _,
-        } => taken_bits(field, bits, value),
-        Phase::Showing { source, bit: _ } => Phase::Showing { source, bit: bits },
-        Phase::Waiting { action: _ } => phase,
-        Phase::Pending {
-            byte: _,
-            address: _,
-        } => phase,
+        Phase::Taking { field, .. } => taken_bits(field, bits, value),
+        Phase::Showing { source, .. } => Phase::Showing { source, bit: bits },
+        _ => phase,
     }
 }
 
@@ -186,19 +116,8 @@ pub fn next_bits(phase: Phase) -> u8
     ensures { result ≡ next_bits phase }
 {
     match phase {
-        Phase::Rest => 0,
-        Phase::Ignoring => 0,
-        Phase::Taking {
-            field: _,
-            count: _,
-            value: _,
-        } => 0,
-        Phase::Showing { source: _, bit: _ } => 0,
-        Phase::Waiting { action: _ } => 0,
-        Phase::Pending {
-            byte: _,
-            address: _,
-        } => 1,
+        Phase::Pending { .. } => 1,
+        _ => 0,
     }
 }
 
@@ -207,18 +126,7 @@ pub fn next_value(phase: Phase, si: bool) -> u32
     ensures { result ≡ next_value phase si }
 {
     match phase {
-        Phase::Rest => 0,
-        Phase::Ignoring => 0,
-        Phase::Taking {
-            field: _,
-            count: _,
-            value: _,
-        } => 0,
-        Phase::Showing { source: _, bit: _ } => 0,
-        Phase::Waiting { action: _ } => 0,
-        Phase::Pending {
-            byte: _,
-            address: _,
-        } => serial::bits::shift_in(0, si),
+        Phase::Pending { .. } => serial::bits::shift_in(0, si),
+        _ => 0,
     }
 }

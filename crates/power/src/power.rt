@@ -13,20 +13,16 @@ use transfer::buffer::AddressBuffer;
 pub fn spi_start(levels: selection::levels::Levels) -> Spi
     ensures { result ≡ spi_start levels }
 {
-    if levels.cs {
-        Spi {
-            last: levels,
-            asleep: false,
-            shown: Answer::HighZ,
-            phase: selection::phase::Phase::Rest,
-        }
+    let phase = if levels.cs {
+        selection::phase::Phase::Rest
     } else {
-        Spi {
-            last: levels,
-            asleep: false,
-            shown: Answer::HighZ,
-            phase: selection::phase::Phase::Ignoring,
-        }
+        selection::phase::Phase::Ignoring
+    };
+    Spi {
+        last: levels,
+        asleep: false,
+        shown: Answer::HighZ,
+        phase,
     }
 }
 
@@ -34,14 +30,13 @@ pub fn spi_start(levels: selection::levels::Levels) -> Spi
 pub fn i2c_start(levels: transfer::levels::Levels, start: u32) -> I2c
     ensures { result ≡ i2c_start levels start }
 {
-    let buffer = AddressBuffer {
-        address: start,
-        used: false,
-    };
     I2c {
         last: levels,
         pulling: false,
-        buffer,
+        buffer: AddressBuffer {
+            address: start,
+            used: false,
+        },
         phase: transfer::phase::Phase::Rest,
     }
 }

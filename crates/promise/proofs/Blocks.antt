@@ -17,15 +17,13 @@ use Rattle.parts.specs.Status.{protected_start}
 use Rattle.parts.specs.Table.{is_spi, part_of}
 use Rattle.parts.proofs.BlockLaws.{top_protected}
 use Rattle.parts.proofs.Rows.{and_both, part_fits}
+use Rattle.std.specs.Prelude.{None, Option}
 use Rattle.serial.specs.Bits.{shifted}
-use Rattle.serial.specs.Write.{applied}
+use Rattle.serial.specs.Write.{applied, write_at}
 use Rattle.serial.specs.declared.write.Write.{Write}
-use Rattle.serial.specs.declared.write.Write.TheVariants.{Nothing, Byte}
 use Rattle.trace.specs.declared.event.Event.{Event}
 use Rattle.trace.specs.declared.event.Event.TheVariants.{SpiPowerOn, I2cPowerOn, PowerOff, Sample, Expected}
-use Rattle.trace.specs.declared.read.Read.{Read}
-use Rattle.trace.specs.declared.read.Read.TheVariants.{Whole, Refused}
-use Rattle.trace.specs.Read.{read_of}
+use Rattle.trace.specs.Read.{read_of, Read, Whole, Refused}
 use Rattle.selection.specs.declared.edge.Edge.{Edge}
 use Rattle.selection.specs.declared.edge.Edge.TheVariants.{Select, Deselect, Rise, Fall, Quiet}
 use Rattle.selection.specs.declared.levels.Levels.{Levels}
@@ -38,12 +36,10 @@ use Rattle.selection.specs.Levels.{levels_of}
 use Rattle.spi.specs.declared.sample.Spi.{Spi}
 use Rattle.spi.specs.Sample.{step_on, step_of}
 use Rattle.spi.specs.Store.{permitted, finished_write, data_write, field_write, rise_write, end_write}
-use Rattle.chip.specs.declared.check.Verdict.{Verdict}
-use Rattle.chip.specs.declared.check.Verdict.TheVariants.{Passed, Failed}
 use Rattle.chip.specs.declared.model.BusState.{BusState}
 use Rattle.chip.specs.declared.model.BusState.TheVariants.{Unpowered, SpiOn, I2cOn}
 use Rattle.chip.specs.declared.model.Model.{Model}
-use Rattle.chip.specs.Check.{check_of}
+use Rattle.chip.specs.Check.{check_of, Verdict, Passed, Failed}
 use Rattle.chip.proofs.CheckLaws.{model_in_lem}
 use Rattle.events.specs.Event.{Outcome, on_spi, advance_on, advance_of}
 use Rattle.runs.specs.Event.{on_read, event_on_verdict, event_of}
@@ -69,13 +65,13 @@ below_apart : (s a b : ℕ) → b < s → s ≤ a → a ≡ b → ⊥
 below_apart s a b h k q = omega arith
 
 module _ (p : Part) (st : Status) (m : List ℕ) (a : ℕ) (c : covers st p a ≡ true) where
-  abbrev Keeps : Write → Type 0
+  abbrev Keeps : Option Write → Type 0
   Keeps w = get_or (applied w m) a 0 ≡ get_or m a 0
 
   permitted_keeps : (b v : ℕ) → Keeps (permitted p st b v)
   permitted_keeps b v = by (st.wel && ltb b (protected_start st p)) refl
     where
-      by : (y : Bool) → (st.wel && ltb b (protected_start st p)) ≡ y → Keeps (cond y (Byte b v) Nothing)
+      by : (y : Bool) → (st.wel && ltb b (protected_start st p)) ≡ y → Keeps (cond y (write_at b v) None)
       by true e =
           let h = ltb-true b (protected_start st p) (and_both st.wel _ e).1 in
           let k = ltb-false a (protected_start st p) (not-true (ltb a (protected_start st p)) c) in
@@ -85,14 +81,14 @@ module _ (p : Part) (st : Status) (m : List ℕ) (a : ℕ) (c : covers st p a �
   finished_keeps : (b v : ℕ) → Keeps (finished_write p st b v)
   finished_keeps b v = by p.late
     where
-      by : (y : Bool) → Keeps (cond y Nothing (permitted p st b v))
+      by : (y : Bool) → Keeps (cond y None (permitted p st b v))
       by true = refl
       by false = permitted_keeps b v
 
   data_keeps : (b n v : ℕ) (x : Bool) → Keeps (data_write p st b n v x)
   data_keeps b n v x = by (ltb n 7)
     where
-      by : (y : Bool) → Keeps (cond y Nothing (finished_write p st b (shifted v x)))
+      by : (y : Bool) → Keeps (cond y None (finished_write p st b (shifted v x)))
       by true = refl
       by false = finished_keeps b (shifted v x)
 

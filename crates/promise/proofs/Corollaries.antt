@@ -10,11 +10,9 @@ use lib.ListN.{length}
 use Rattle.parts.specs.declared.part.Part.{Part}
 use Rattle.parts.specs.Table.{part_of}
 use Rattle.parts.proofs.Rows.{part_fits}
+use Rattle.std.specs.Prelude.{None, Option, Some}
 use Rattle.serial.specs.declared.write.Write.{Write}
-use Rattle.serial.specs.declared.write.Write.TheVariants.{Nothing, Byte}
-use Rattle.trace.specs.declared.read.Read.{Read}
-use Rattle.trace.specs.declared.read.Read.TheVariants.{Whole, Refused}
-use Rattle.trace.specs.Read.{read_of}
+use Rattle.trace.specs.Read.{read_of, Read, Whole, Refused}
 use Rattle.selection.specs.declared.opcode.Command.TheVariants.{WREN, WRDI, RDSR, WRSR, READ, WRITE, FSTRD, RDID, SLEEP, Unknown}
 use Rattle.chip.specs.declared.model.Model.{Model}
 use Rattle.chip.proofs.CheckLaws.{model_in_lem}
@@ -99,11 +97,11 @@ module _ (p : Part) (made : SavedBits) where
 
 -- ---- old or new
 
-by_write : (first : List ℕ) (ws ws' : List Store) (w : Write) → ws' ≡ ws ++ stores_of w → AllProper (length (stored first ws)) ws'
+by_write : (first : List ℕ) (ws ws' : List Store) (w : Option Write) → ws' ≡ ws ++ stores_of w → AllProper (length (stored first ws)) ws'
     → OldOrNew (stored first ws) (stored first ws') ws ws'
-by_write first ws ws' Nothing e h = let q = e ∙ append-nil ws in old (ap (stored first) q) q
-by_write first ws ws' (Byte a v) e h =
-    let w : Store = record { address = a; value = v } in
+by_write first ws ws' None e h = let q = e ∙ append-nil ws in old (ap (stored first) q) q
+by_write first ws ws' (Some x) e h =
+    let w : Store = record { address = x.address; value = x.value } in
     let r = proper_last (length (stored first ws)) ws w (rw e at h) in
     new w r.inside r.byte (ap (stored first) e ∙ stored_append first ws _) e
 
@@ -161,7 +159,7 @@ module _ (part pins bits : ℕ) (first : List ℕ) where
     read_grows (Whole e n) a h =
         ledger_grows model (part_fits model.part (model_in_lem model (made_in part pins bits).0).known).wide
         (range_wired model (made_in part pins bits)) e a h
-    read_grows (Refused r place) a h = (Nothing, sym (append-nil (ledger_stores model h)))
+    read_grows (Refused r place) a h = (None, sym (append-nil (ledger_stores model h)))
 
     -- an accepted event had a memory of the part's size
     sized : eqb next.number 0 ≡ true → length (memory_of es) ≡ row.size

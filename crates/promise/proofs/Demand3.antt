@@ -16,7 +16,7 @@ use Rattle.chip.specs.declared.model.Model.{Model}
 use Rattle.chip.specs.Check.{bits_clear}
 use Rattle.chip.specs.Model.{model_of, unpowered}
 use Rattle.chip.proofs.CheckLaws.{ModelIn, model_in_lem}
-use Rattle.model.specs.declared.make.Made.{Made}
+use Rattle.model.specs.Made.{Made}
 use Rattle.model.specs.Make.{status_of, make_of}
 use Rattle.ledger.specs.History.{Entry}
 use Rattle.ledger.specs.Stores.{stored}

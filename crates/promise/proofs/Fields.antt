@@ -21,17 +21,14 @@ use Rattle.parts.specs.Numbers.{answer_number}
 use Rattle.parts.specs.Table.{is_spi, part_of}
 use Rattle.trace.specs.declared.event.Event.{Event}
 use Rattle.trace.specs.declared.event.Event.TheVariants.{SpiPowerOn, I2cPowerOn, PowerOff, Sample, Expected}
-use Rattle.trace.specs.declared.read.Read.{Read}
-use Rattle.trace.specs.declared.read.Read.TheVariants.{Whole, Refused}
 use Rattle.trace.specs.Event.{sample_limit}
-use Rattle.trace.specs.Read.{known_kind, parsed_event, fields_read, read_of, place_of}
+use Rattle.trace.specs.Read.{known_kind, parsed_event, fields_read, read_of, place_of, Read, Whole, Refused}
 use Rattle.spi.specs.Show as SpiShow
 use Rattle.i2c.specs.Sample as I2cSample
-use Rattle.chip.specs.declared.check.Verdict.TheVariants.{Passed, Failed}
 use Rattle.chip.specs.declared.model.BusState.{BusState}
 use Rattle.chip.specs.declared.model.BusState.TheVariants.{Unpowered, SpiOn, I2cOn}
 use Rattle.chip.specs.declared.model.Model.{Model}
-use Rattle.chip.specs.Check.{Sound}
+use Rattle.chip.specs.Check.{Sound, Passed, Failed}
 use Rattle.events.specs.Event.{Outcome, accepted, refused, expected, advance_on, advance_of}
 use Rattle.events.proofs.Done.{Done, refused_with_lem, accepted_as, done}
 use Rattle.runs.specs.Event.{on_read, event_on_verdict, event_of}

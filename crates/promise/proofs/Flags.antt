@@ -14,20 +14,17 @@ use Rattle.parts.specs.Table.{is_spi, part_of}
 use Rattle.parts.proofs.NumberLaws.{number_positive}
 use Rattle.trace.specs.declared.event.Event.{Event}
 use Rattle.trace.specs.declared.event.Event.TheVariants.{SpiPowerOn, I2cPowerOn, PowerOff, Sample, Expected}
-use Rattle.trace.specs.declared.read.Read.TheVariants.{Whole}
-use Rattle.trace.specs.Read.{read_of}
+use Rattle.trace.specs.Read.{read_of, Whole}
 use Rattle.selection.specs.Levels as SpiLevels
 use Rattle.spi.specs.declared.sample.Spi as SpiState
 use Rattle.spi.specs.Show as SpiShow
 use Rattle.transfer.specs.Levels as I2cLevels
 use Rattle.i2c.specs.declared.sample.I2c as I2cState
 use Rattle.i2c.specs.Sample as I2cSample
-use Rattle.chip.specs.declared.check.Verdict.{Verdict}
-use Rattle.chip.specs.declared.check.Verdict.TheVariants.{Passed, Failed}
 use Rattle.chip.specs.declared.model.BusState.{BusState}
 use Rattle.chip.specs.declared.model.BusState.TheVariants.{Unpowered, SpiOn, I2cOn}
 use Rattle.chip.specs.declared.model.Model.{Model}
-use Rattle.chip.specs.Check.{check_of, Sound}
+use Rattle.chip.specs.Check.{check_of, Sound, Verdict, Passed, Failed}
 use Rattle.events.specs.Event.{Outcome, advance_on, advance_of}
 use Rattle.events.proofs.OtherEventLaws.{expected_clear}
 use Rattle.runs.specs.Event.{event_of}

@@ -6,8 +6,8 @@ use mathlib.Core.Bool.{Bool, true, false, cond}
 use mathlib.Core.List.{List, [], ◌∷◌, ◌++◌, append_assoc, append-nil}
 use Rattle.parts.specs.declared.part.Part.{Part}
 use Rattle.parts.specs.Table.{is_spi, part_of}
+use Rattle.std.specs.Prelude.{None, Option}
 use Rattle.serial.specs.declared.write.Write.{Write}
-use Rattle.serial.specs.declared.write.Write.TheVariants.{Nothing}
 use Rattle.trace.specs.declared.event.Event.{Event}
 use Rattle.trace.specs.declared.event.Event.TheVariants.{SpiPowerOn, I2cPowerOn, PowerOff, Sample, Expected}
 use Rattle.selection.specs.declared.edge.Edge as SpiEdge
@@ -40,10 +40,10 @@ use Rattle.promise.specs.Ledger.{saved_in, ledger_stores}
 
 -- the stores us are the stores ws, with at most one more after them
 abbrev pub Grown : List Store → List Store → Type 0
-Grown ws us = (w : Write) × us ≡ ws ++ stores_of w
+Grown ws us = (w : Option Write) × us ≡ ws ++ stores_of w
 
 same : (ws : List Store) → Grown ws ws
-same ws = (Nothing, sym (append-nil ws))
+same ws = (None, sym (append-nil ws))
 
 -- ---- SPI
 
@@ -54,7 +54,7 @@ module _ (p : Part) (made : SavedBits) (wide : 0 < p.width) where
   select_grows : (y : Bool) (hs : List SpiLedger.Item)
       → Grown (SpiLedger.writes p made hs) (SpiLedger.writes p made (cond y hs (selection [] unended ∷ hs)))
   select_grows true hs = same _
-  select_grows false hs = (Nothing, rw no_stores)
+  select_grows false hs = (None, rw no_stores)
 
   end_grows : (y : Bool) (bs : List Bool) (wp : Bool) (hs : List SpiLedger.Item)
       → Grown (SpiLedger.writes p made (cond y hs (selection bs unended ∷ hs))) (SpiLedger.writes p made (cond y hs (selection bs (ended wp) ∷ hs)))
@@ -119,7 +119,7 @@ module _ (p : Part) (pins : ℕ) (wired : Wired p pins) where
       )
 
   line_grows : (e : I2cEdge.Edge) (wp : Bool) (is : List I2cLedger.Item) → Grown (i2c_stores is) (i2c_stores (I2cLedger.items_on_edge e wp is))
-  line_grows I2cEdges.Start wp is = (Nothing, refl)
+  line_grows I2cEdges.Start wp is = (None, refl)
   line_grows I2cEdges.Stop wp is = same _
   line_grows (I2cEdges.Rise x) wp is = clock_grows (record { line = x; wp = wp }) is
   line_grows I2cEdges.Fall wp is = same _

@@ -15,7 +15,7 @@ use Rattle.chip.specs.declared.model.BusState.{BusState}
 use Rattle.chip.specs.declared.model.BusState.TheVariants.{Unpowered, SpiOn, I2cOn}
 use Rattle.chip.specs.declared.model.Model.{Model}
 use Rattle.chip.specs.Model.{unpowered}
-use Rattle.model.specs.declared.make.Made.{Made}
+use Rattle.model.specs.Made.{Made}
 use Rattle.model.specs.Make.{status_of, make_in, make_of}
 use Rattle.runs.specs.Event.{event_of}
 use Rattle.runs.specs.Run.{run_of}

@@ -10,12 +10,11 @@ use borrow.Author.Tests.{eqb-false, lt-ltb}
 use Rattle.parts.specs.declared.part.Part.{Part}
 use Rattle.parts.specs.Table.{is_spi, part_of}
 use Rattle.trace.specs.declared.event.Event.{Event}
-use Rattle.trace.specs.declared.read.Read.TheVariants.{Whole}
-use Rattle.trace.specs.Read.{read_of}
+use Rattle.trace.specs.Read.{read_of, Whole}
 use Rattle.chip.specs.declared.model.Model.{Model}
 use Rattle.chip.specs.Model.{unpowered}
 use Rattle.events.specs.Event.{Outcome}
-use Rattle.model.specs.declared.make.Made.{Made}
+use Rattle.model.specs.Made.{Made}
 use Rattle.model.specs.Make.{status_of, make_of}
 use Rattle.runs.specs.Event.{event_of}
 use Rattle.runs.proofs.EventLaws.{event_stays}

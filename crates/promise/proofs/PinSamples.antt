@@ -14,9 +14,8 @@ use Rattle.parts.specs.declared.status.Status.{Status}
 use Rattle.parts.specs.Table.{is_spi, part_of}
 use Rattle.parts.proofs.Rows.{and_both}
 use Rattle.trace.specs.declared.event.Event.TheVariants.{Sample}
-use Rattle.trace.specs.declared.read.Read.TheVariants.{Whole}
 use Rattle.trace.specs.Event.{sample_limit}
-use Rattle.trace.specs.Read.{read_of}
+use Rattle.trace.specs.Read.{read_of, Whole}
 use Rattle.trace.proofs.SampleLaws.{sample_read}
 use Rattle.chip.specs.declared.model.BusState.{BusState}
 use Rattle.chip.specs.declared.model.BusState.TheVariants.{Unpowered, SpiOn, I2cOn}

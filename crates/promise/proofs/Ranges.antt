@@ -13,7 +13,7 @@ use Rattle.chip.specs.declared.model.Model.{Model}
 use Rattle.chip.specs.Check.{model_in, bus_in}
 use Rattle.chip.specs.Model.{unpowered}
 use Rattle.chip.proofs.CheckLaws.{model_in_lem}
-use Rattle.model.specs.declared.make.Made.{Made}
+use Rattle.model.specs.Made.{Made}
 use Rattle.byte_path.specs.Select.{select_of}
 use Rattle.runs.specs.Event.{event_of}
 use Rattle.runs.specs.Run.{run_of}

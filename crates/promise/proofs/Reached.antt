@@ -6,9 +6,8 @@ use mathlib.Core.Bool.{true, cond}
 use lib.Dec.{eqb}
 use Rattle.parts.specs.declared.refusal.Refusal.TheVariants.{MemoryLength}
 use Rattle.parts.specs.Table.{part_of}
-use Rattle.chip.specs.declared.check.Verdict.TheVariants.{Passed, Failed}
 use Rattle.chip.specs.declared.model.Model.{Model}
-use Rattle.chip.specs.Check.{model_in, bus_in, check_of}
+use Rattle.chip.specs.Check.{model_in, bus_in, check_of, Passed, Failed}
 use Rattle.image.specs.Taken.{in_range}
 use Rattle.calls.proofs.Opening.{check_by}
 use Rattle.promise.specs.Reached.{Reached, by_making, by_event_lem, by_run_lem, by_select_lem}

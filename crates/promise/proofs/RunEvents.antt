@@ -15,10 +15,8 @@ use Rattle.parts.specs.Table.{part_of}
 use Rattle.parts.proofs.NumberLaws.{number_positive}
 use Rattle.trace.specs.Read.{event_length, read_of}
 use Rattle.trace.proofs.ReadLaws.{length_positive, event_front}
-use Rattle.chip.specs.declared.check.Verdict.{Verdict}
-use Rattle.chip.specs.declared.check.Verdict.TheVariants.{Passed, Failed}
 use Rattle.chip.specs.declared.model.Model.{Model}
-use Rattle.chip.specs.Check.{check_of}
+use Rattle.chip.specs.Check.{check_of, Verdict, Passed, Failed}
 use Rattle.runs.specs.Event.{event_of}
 use Rattle.runs.specs.Event as One
 use Rattle.runs.specs.Run.{Run, stop_at, after, run_on_verdict, loop_of, run_of}

@@ -11,14 +11,10 @@ use Rattle.parts.specs.declared.part.Part.{Part}
 use Rattle.parts.specs.declared.refusal.Refusal.{Refusal}
 use Rattle.parts.specs.Table.{part_of}
 use Rattle.trace.specs.declared.event.Event.{Event}
-use Rattle.trace.specs.declared.read.Read.{Read}
-use Rattle.trace.specs.declared.read.Read.TheVariants.{Whole, Refused}
-use Rattle.trace.specs.Read.{read_of}
+use Rattle.trace.specs.Read.{read_of, Read, Whole, Refused}
 use Rattle.trace.proofs.SuitLaws.{Suits, suits}
-use Rattle.chip.specs.declared.check.Verdict.{Verdict}
-use Rattle.chip.specs.declared.check.Verdict.TheVariants.{Passed, Failed}
 use Rattle.chip.specs.declared.model.Model.{Model}
-use Rattle.chip.specs.Check.{check_of, Sound}
+use Rattle.chip.specs.Check.{check_of, Sound, Verdict, Passed, Failed}
 use Rattle.events.specs.Event.{Outcome, keeping, refused, advance_of}
 use Rattle.runs.specs.Event.{on_read, event_on_verdict, event_of}
 use Rattle.ledger.specs.History.{Entry}

@@ -13,12 +13,10 @@ use Rattle.parts.specs.declared.refusal.Refusal.TheVariants.{UnknownKind, NotDes
 use Rattle.parts.specs.Status.{bit}
 use Rattle.parts.specs.Table.{is_spi, part_of}
 use Rattle.parts.proofs.NumberLaws.{number_positive}
-use Rattle.chip.specs.declared.check.Verdict.{Verdict}
-use Rattle.chip.specs.declared.check.Verdict.TheVariants.{Passed, Failed}
 use Rattle.chip.specs.declared.model.BusState.{BusState}
 use Rattle.chip.specs.declared.model.BusState.TheVariants.{Unpowered, SpiOn, I2cOn}
 use Rattle.chip.specs.declared.model.Model.{Model}
-use Rattle.chip.specs.Check.{check_of}
+use Rattle.chip.specs.Check.{check_of, Verdict, Passed, Failed}
 use Rattle.byte_path.specs.PinPath.{sample_of, Pins, sampled, bits_of, clocked_all, answers_before, Back, back_of, bytes_taken, bytes_back, last_si, bytes_of, first_driven, driven_count, fallen, risen, selection_of}
 use Rattle.byte_path.specs.Select.{Select, refused_select, taken_select, sized_select, bus_select, verdict_select, select_of}
 use Rattle.runs.specs.Run.{run_of}

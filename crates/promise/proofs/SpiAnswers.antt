@@ -14,8 +14,7 @@ use Rattle.parts.proofs.Rows.{part_fits}
 use Rattle.serial.specs.Write.{applied}
 use Rattle.trace.specs.declared.event.Event.{Event}
 use Rattle.trace.specs.declared.event.Event.TheVariants.{SpiPowerOn, I2cPowerOn, PowerOff, Sample, Expected}
-use Rattle.trace.specs.declared.read.Read.TheVariants.{Whole}
-use Rattle.trace.specs.Read.{read_of}
+use Rattle.trace.specs.Read.{read_of, Whole}
 use Rattle.trace.proofs.SuitLaws.{Suits}
 use Rattle.selection.specs.declared.edge.Edge.{Edge}
 use Rattle.selection.specs.declared.edge.Edge.TheVariants.{Select, Deselect, Rise, Fall, Quiet}

@@ -15,9 +15,8 @@ use Rattle.parts.specs.declared.status.Status.{Status}
 use Rattle.parts.specs.Status.{status_byte}
 use Rattle.parts.specs.Table.{is_spi, part_of}
 use Rattle.trace.specs.declared.event.Event.TheVariants.{Sample}
-use Rattle.trace.specs.declared.read.Read.TheVariants.{Whole}
 use Rattle.trace.specs.Event.{sample_limit}
-use Rattle.trace.specs.Read.{read_of}
+use Rattle.trace.specs.Read.{read_of, Whole}
 use Rattle.selection.specs.declared.edge.Edge.TheVariants.{Rise, Fall}
 use Rattle.selection.specs.declared.levels.Levels.{Levels}
 use Rattle.selection.specs.declared.opcode.Command.TheVariants.{RDSR, READ}

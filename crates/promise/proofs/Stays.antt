@@ -12,15 +12,11 @@ use Rattle.parts.specs.Table.{part_of}
 use Rattle.parts.proofs.NumberLaws.{refusal_counts}
 use Rattle.trace.specs.declared.event.Event.{Event}
 use Rattle.trace.specs.declared.event.Event.TheVariants.{PowerOff}
-use Rattle.trace.specs.declared.read.Read.{Read}
-use Rattle.trace.specs.declared.read.Read.TheVariants.{Whole, Refused}
-use Rattle.trace.specs.Read.{read_of}
-use Rattle.chip.specs.declared.check.Verdict.{Verdict}
-use Rattle.chip.specs.declared.check.Verdict.TheVariants.{Passed, Failed}
+use Rattle.trace.specs.Read.{read_of, Read, Whole, Refused}
 use Rattle.chip.specs.declared.model.BusState.{BusState}
 use Rattle.chip.specs.declared.model.BusState.TheVariants.{Unpowered, SpiOn, I2cOn}
 use Rattle.chip.specs.declared.model.Model.{Model}
-use Rattle.chip.specs.Check.{check_of}
+use Rattle.chip.specs.Check.{check_of, Verdict, Passed, Failed}
 use Rattle.chip.proofs.CheckLaws.{sound_in}
 use Rattle.events.specs.Event.{advance_on, advance_of}
 use Rattle.runs.specs.Event.{on_read, event_on_verdict, event_of}

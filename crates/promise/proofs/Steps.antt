@@ -15,12 +15,10 @@ use Rattle.parts.proofs.Rows.{and_both, part_fits}
 use Rattle.trace.specs.declared.event.Event.{Event}
 use Rattle.trace.specs.Read.{read_of}
 use Rattle.trace.proofs.SuitLaws.{Suits}
-use Rattle.chip.specs.declared.check.Verdict.{Verdict}
-use Rattle.chip.specs.declared.check.Verdict.TheVariants.{Passed, Failed}
 use Rattle.chip.specs.declared.model.BusState.{BusState}
 use Rattle.chip.specs.declared.model.BusState.TheVariants.{Unpowered, SpiOn, I2cOn}
 use Rattle.chip.specs.declared.model.Model.{Model}
-use Rattle.chip.specs.Check.{bits_clear, check_of, Sound}
+use Rattle.chip.specs.Check.{bits_clear, check_of, Sound, Verdict, Passed, Failed}
 use Rattle.events.specs.Event.{Outcome, advance_of}
 use Rattle.chip.specs.Model.{model_of}
 use Rattle.chip.proofs.CheckLaws.{model_in_lem, sound_in}

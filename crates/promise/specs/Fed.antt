@@ -2,9 +2,7 @@
 -- the numbers and answers seen, not from states.
 use Rattle.std.specs.Prelude.{ℕ, cond, List, [], ◌∷◌, eqb}
 use Rattle.parts.specs.declared.part.Part.{Part}
-use Rattle.trace.specs.declared.read.Read.{Read}
-use Rattle.trace.specs.declared.read.Read.TheVariants.{Whole, Refused}
-use Rattle.trace.specs.Read.{read_of}
+use Rattle.trace.specs.Read.{read_of, Read, Whole, Refused}
 use Rattle.ledger.specs.History.{Entry}
 use Rattle.promise.specs.Lists.{Observed}
 

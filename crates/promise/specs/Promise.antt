@@ -2,7 +2,7 @@
 use Rattle.std.specs.Prelude.{ℕ, ◌<◌, ◌≡◌, List, [], ◌∷◌, ◌++◌, length, get_or}
 use Rattle.parts.specs.Table.{part_of}
 use Rattle.chip.specs.declared.model.Model.{Model}
-use Rattle.model.specs.declared.make.Made.{Made}
+use Rattle.model.specs.Made.{Made}
 use Rattle.model.specs.Make.{make_of}
 use Rattle.ledger.specs.History.{Entry}
 use Rattle.ledger.specs.Stores.{last_at}

@@ -1,7 +1,2 @@
-// Definitions and theorems only: what a model promises of its memory over whole lists of events. A crate needs a function, and
-// this one says nothing.
+// Definitions and theorems only: what a model promises of its memory over whole lists of events.
 #![tactic(auto)]
-
-pub fn nothing() -> u8 {
-    0
-}

@@ -1,5 +1,6 @@
 -- What a program shows of a trace: a making with pins and bits 0, and a run with no limit on events.
-use Rattle.std.specs.Prelude.{ℕ, Bool, true, false, cond, List, [], ltb, length}
+use Rattle.std.specs.Prelude.{ℕ, Bool, true, false, cond, List, [], ltb, length, Option, Some, None}
+use Rattle.parts.specs.Numbers.{number_of}
 use Rattle.runs.specs.Run.{Run}
 use Rattle.made.specs.MadeRun.{made_run}
 use Rattle.report.specs.declared.show.Report.{Report}
@@ -16,7 +17,20 @@ shown_run part t m = made_run part 0 0 unlimited t m
 abbrev pub too_long : List ℕ → Bool
 too_long t = ltb 65536 (length t)
 
-abbrev pub report_of : ℕ → List ℕ → List ℕ → Report
+-- what is printed: that the trace is too long, or the run's number, count and offset and how many bytes the text has
+pub record Printed : Type 0 where
+  pub long : Bool
+  pub number : ℕ
+  pub count : ℕ
+  pub offset : ℕ
+  pub length : ℕ
+
+-- what the code returns amounts to that
+abbrev pub printed_of : Option Report → Printed
+printed_of None = record { long = true; number = 0; count = 0; offset = 0; length = 0 }
+printed_of (Some r) = record { long = false; number = number_of r.refusal; count = r.count; offset = r.offset; length = r.length }
+
+abbrev pub report_of : ℕ → List ℕ → List ℕ → Printed
 report_of part t m =
     cond (too_long t) (record { long = true; number = 0; count = 0; offset = 0; length = 0 })
     (record {

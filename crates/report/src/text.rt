@@ -9,10 +9,10 @@ const LAST: usize = 63;
 fn letter_of(answer: u8) -> u8
     ensures { result ≡ letter answer }
 {
-    if answer == 0 {
-        b'0'
-    } else {
-        if answer == 1 { b'1' } else { b'Z' }
+    match answer {
+        0 => b'0',
+        1 => b'1',
+        _ => b'Z',
     }
 }
 
@@ -57,13 +57,11 @@ pub fn write_text(answers: &[u8], out: &mut [u8]) -> usize
     ensures length { result ≡ length (text 0 answers.now) }
     ensures text { out.new ≡ sets out.old 0 (text 0 answers.now) }
 {
-    let mut i: usize = 0;
-    let mut at: usize = 0;
-    let mut column: usize = 0;
-    while i < answers.len() {
-        at = write_piece(&mut *out, at, column, answers[i]);
+    let mut at = 0;
+    let mut column = 0;
+    for answer in answers {
+        at = write_piece(&mut *out, at, column, *answer);
         column = next_column(column);
-        i += 1;
     }
     close_line(&mut *out, at, column)
 }

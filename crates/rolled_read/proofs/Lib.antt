@@ -1,3 +1,2 @@
 pub mod RolledLaws
 pub mod ReadLaws
-pub mod FillLaws

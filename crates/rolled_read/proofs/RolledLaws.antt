@@ -1,7 +1,7 @@
 -- Bytes from an address up, and on from 0 after the top: how many they are, where a reading goes on, and that a stretch up to the
 -- top is a plain part of the memory. Assumes nothing.
 use Prim.Native.Nat.{ℕ, zero, suc, ◌+◌, ◌-◌, ◌<◌, ◌≤◌, min}
-use mathlib.Core.Path.{◌≡◌, refl, ap, ◌∙◌}
+use mathlib.Core.Path.{◌≡◌, refl, sym, ap, ◌∙◌}
 use mathlib.Core.List.{List, ◌∷◌, ◌++◌}
 use native.Mathlib.Nat.{zero-add, suc-add}
 use native.Mathlib.Numerals.{add-one}
@@ -39,10 +39,6 @@ after_top size a (suc (suc n)) h e =
     let up : next_address size a ≡ a + 1 = next_below size a (omega arith) in
     rw up (after_top size (a + 1) (suc n) (omega arith) (omega arith))
 
-pub length_rolled : (m : List ℕ) (a n : ℕ) → length (rolled_from m a n) ≡ n
-length_rolled m a zero = refl
-length_rolled m a (suc n) = ap suc (length_rolled m (next_address (length m) a) n)
-
 -- i bytes, then j bytes from where those end
 pub rolled_append : (m : List ℕ) (a i j : ℕ) → rolled_from m a (i + j) ≡ rolled_from m a i ++ rolled_from m (address_after (length m) a i) j
 rolled_append m a zero j = rw zero-add
@@ -62,11 +58,12 @@ rest_from_0 : (m : List ℕ) (a j : ℕ) → (0 < j → a ≡ 0) → rolled_from
 rest_from_0 m a zero h = refl
 rest_from_0 m a (suc j) h = rw (h (omega arith))
 
--- one stretch, as far as is asked and at most to the top; what is left goes on from 0
-pub rolled_stretch : (m : List ℕ) (a n left : ℕ) → a < length m → n ≡ min left (length m - a)
-    → rolled_from m a left ≡ take n (drop a m) ++ rolled_from m 0 (left - n)
-rolled_stretch m a n left h e =
+-- what lies ahead, as far as is asked, and what is left then goes on from 0
+pub rolled_ahead : (m ahead : List ℕ) (n left : ℕ) → 0 < length ahead → length ahead ≤ length m → ahead ≡ drop (length m - length ahead) m → n ≡ min (length ahead) left
+    → rolled_from m (length m - length ahead) left ≡ take n ahead ++ rolled_from m 0 (left - n)
+rolled_ahead m ahead n left some part is e =
+    let a : ℕ = length m - length ahead in
     let whole : left ≡ n + (left - n) = omega arith in
     let rest : rolled_from m (address_after (length m) a n) (left - n) ≡ rolled_from m 0 (left - n) =
-    rest_from_0 m (address_after (length m) a n) (left - n) (λ more. after_top (length m) a n h (omega arith)) in
-    ap (rolled_from m a) whole ∙ rolled_append m a n (left - n) ∙ rw (rest, rolled_within m a n (omega arith))
+    rest_from_0 m (address_after (length m) a n) (left - n) (λ more. after_top (length m) a n (omega arith) (omega arith)) in
+    ap (rolled_from m a) whole ∙ rolled_append m a n (left - n) ∙ rw rest (ap (λ (l : List ℕ). l ++ rolled_from m 0 (left - n)) (rolled_within m a n (omega arith) ∙ ap (take n) (sym is)))

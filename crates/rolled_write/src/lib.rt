@@ -2,53 +2,27 @@
 // memory is written in stretches that reach at most to the top, each by one copy: no byte's address is looked at.
 #![tactic(auto)]
 
-ghost use Rattle.std.specs.Prelude.{◌≡◌, ◌+◌, ◌-◌, ◌<◌, ◌≤◌, min, length, take, drop};
+ghost use Rattle.std.specs.Prelude.{◌≡◌, ◌+◌, ◌<◌, ◌≤◌, length};
 ghost use Rattle.rolled_write.specs.Written.{written_from};
 
-// The lesser of two numbers.
-pub fn least(a: usize, b: usize) -> usize
-    ensures { result ≡ min a b }
+// A stretch that ends at the top or before it: its bytes below start are stored.
+#[tactic(auto, using(crate::proofs::WrittenLaws::stretch_copied))]
+fn write_stretch(memory: &mut [u8], address: usize, start: usize, stretch: &[u8])
+    requires { address + length stretch.now ≤ length memory.old }
+    ensures { memory.new ≡ written_from start memory.old address stretch.now }
 {
-    if a <= b { a } else { b }
+    let stored = start.saturating_sub(address).min(stretch.len());
+    memory[address..address + stored].copy_from_slice(&stretch[..stored]);
 }
 
-// How many of count bytes from an address up lie below start.
-fn unprotected(address: usize, start: usize, count: usize) -> usize
-    ensures { result ≡ min (start - address) count }
+// The bytes that fit up to the top, and the others from 0, a whole memory at a time.
+pub fn write_rolled(memory: &mut [u8], address: usize, start: usize, bytes: &[u8])
+    requires { address < length memory.old }
+    ensures { memory.new ≡ written_from start memory.old address bytes.now }
 {
-    if start <= address {
-        return 0;
-    }
-    least(start - address, count)
-}
-
-// The bytes input[at .. at + count] to addresses that end at the top or before it.
-fn write_stretch(
-    memory: &mut [u8],
-    address: usize,
-    start: usize,
-    input: &[u8],
-    at: usize,
-    count: usize,
-)
-    requires { (address + count ≤ length memory.old) × (at + count ≤ length input.now) }
-    ensures { memory.new ≡ written_from start memory.old address (take count (drop at input.now)) }
-{
-    let stored = unprotected(address, start, count);
-    block_copy::copy(&input[at..at + stored], &mut memory[address..]);
-}
-
-// The bytes of input from index `from` on, a stretch up to the top at a time.
-pub fn write_rolled(memory: &mut [u8], address: usize, start: usize, input: &[u8], from: usize)
-    requires { (address < length memory.old) × (from ≤ length input.now) }
-    ensures { memory.new ≡ written_from start memory.old address (drop from input.now) }
-{
-    let mut left = input.len() - from;
-    let mut to = address;
-    while 0 < left {
-        let count = least(memory.len() - to, left);
-        write_stretch(&mut *memory, to, start, input, input.len() - left, count);
-        left -= count;
-        to = 0;
+    let (first, rest) = bytes.split_at(bytes.len().min(memory.len() - address));
+    write_stretch(memory, address, start, first);
+    for stretch in rest.chunks(memory.len()) {
+        write_stretch(memory, 0, start, stretch);
     }
 }

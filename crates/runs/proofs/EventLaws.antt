@@ -7,16 +7,12 @@ use Rattle.parts.specs.declared.refusal.Refusal.{Refusal}
 use Rattle.parts.specs.Table.{part_of}
 use Rattle.parts.proofs.NumberLaws.{number_positive}
 use Rattle.trace.specs.declared.event.Event.{Event}
-use Rattle.trace.specs.declared.read.Read.{Read}
-use Rattle.trace.specs.declared.read.Read.TheVariants.{Whole, Refused}
-use Rattle.trace.specs.Read.{event_length, read_of}
+use Rattle.trace.specs.Read.{event_length, read_of, Read, Whole, Refused}
 use Rattle.trace.proofs.ReadLaws.{passed, taken_within}
 use Rattle.trace.proofs.SuitLaws.{suits}
-use Rattle.chip.specs.declared.check.Verdict.{Verdict}
-use Rattle.chip.specs.declared.check.Verdict.TheVariants.{Passed, Failed}
 use Rattle.chip.specs.declared.model.Model.{Model}
 use Rattle.events.specs.Event.{keeping, refused, advance_of}
-use Rattle.chip.specs.Check.{check_of, Sound}
+use Rattle.chip.specs.Check.{check_of, Sound, Verdict, Passed, Failed}
 use Rattle.events.proofs.Keeps.{keeps}
 use Rattle.events.specs.Stays.{Stays}
 use Rattle.events.proofs.Stays.{unchanged, stays}

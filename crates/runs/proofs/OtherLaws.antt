@@ -12,26 +12,23 @@ use borrow.Author.Tests.{eqb-true, eqb-false}
 use Rattle.parts.specs.declared.part.Part.{Part}
 use Rattle.parts.specs.Table.{part_of}
 use Rattle.parts.proofs.NumberLaws.{number_positive}
-use Rattle.trace.specs.declared.read.Read.{Read}
-use Rattle.trace.specs.declared.read.Read.TheVariants.{Whole, Refused}
-use Rattle.trace.specs.Read.{read_of}
+use Rattle.trace.specs.Read.{read_of, Read, Whole, Refused}
 use Rattle.trace.proofs.ReadLaws.{taken_within, place_within}
 use Rattle.chip.specs.Check.{Sound}
-use Rattle.events.specs.declared.event.Answered.{Answered}
+use Rattle.events.specs.Reply.{Reply}
 use Rattle.events.specs.Event.{advance_of}
 use Rattle.events.specs.Flag.{flag_at}
 use Rattle.events.specs.OtherEvent.{OtherThanSample}
 use Rattle.events.proofs.FlagLaws.{first_none}
 use Rattle.events.proofs.OtherEventLaws.{other_keeps, other_clear}
 use Rattle.samples.specs.declared.progress.Progress.{Progress}
-use Rattle.steps.specs.declared.other.Other.{Other}
-use Rattle.steps.specs.Other.{other, other_of, other_noted}
+use Rattle.steps.specs.Other.{Standing, other, other_of, other_noted}
 use Rattle.runs.specs.Run.{ran, loop_of}
 use Rattle.runs.proofs.RunLaws.{Final, final, final_of, left_over, left_used, left_unread, left_unmoved, left_moved, moved_sound, moved_part}
 use Rattle.runs.proofs.SamplesRun.{Here, here_other}
 
 -- the run with the event x and the answers b: refused, it is over; accepted, it goes on
-pub record Went (p : Part) (t : List ℕ) (q : ℕ) (goal : Final) (f c : ℕ) (m : List ℕ) (x : Other) (b : List ℕ) : Type 0 where
+pub record Went (p : Part) (t : List ℕ) (q : ℕ) (goal : Final) (f c : ℕ) (m : List ℕ) (x : Standing) (b : List ℕ) : Type 0 where
   pub sound : Sound x.model m
   pub part : p ≡ part_of x.model.part
   pub within : x.offset ≤ length t
@@ -60,7 +57,7 @@ module _ (p : Part) (t : List ℕ) (q : ℕ) (goal : Final) (c : ℕ) (s : Progr
         }
     went_by (Whole e n) k = by (eqb a.number 0) refl
       where
-        a : Answered
+        a : Reply
         a = (advance_of s.model m e).result
 
         read : read_of (part_of s.model.part) (drop s.offset t) ≡ Whole e n
@@ -95,6 +92,6 @@ module _ (p : Part) (t : List ℕ) (q : ℕ) (goal : Final) (c : ℕ) (s : Progr
               left = λ w. absurd (eqb-false _ _ z w);
             }
 
-    pub went : (x : Other) (b : List ℕ) → x ≡ other_of (read_of p (drop s.offset t)) s.model m s.offset
+    pub went : (x : Standing) (b : List ℕ) → x ≡ other_of (read_of p (drop s.offset t)) s.model m s.offset
         → b ≡ other_noted (read_of p (drop s.offset t)) s.model m s.count buf → Went p t q goal s.flag s.count m x b
     went x b ex eb = rw (ex, eb) (went_by (read_of p (drop s.offset t)) refl)

@@ -4,7 +4,7 @@ use Prim.Native.Nat.{ℕ, zero, suc, ◌+◌, ◌-◌, ◌<◌, ◌≤◌}
 use mathlib.Core.Path.{◌≡◌, refl, sym, ap, ◌∙◌}
 use mathlib.Core.Bool.{Bool, true, false}
 use mathlib.Core.List.{List}
-use native.Mathlib.Nat.{zero-add, add-zero, add_assoc}
+use native.Mathlib.Nat.{add-zero, add_assoc}
 use native.Mathlib.Numerals.{add-one}
 use native.Mathlib.Omega.{arith}
 use lib.Dec.{eqb}
@@ -17,20 +17,18 @@ use Rattle.parts.specs.Numbers.{refusal_number}
 use Rattle.parts.specs.Table.{part_of}
 use Rattle.parts.proofs.NumberLaws.{number_positive}
 use Rattle.trace.specs.declared.event.Event.{Event}
-use Rattle.trace.specs.declared.read.Read.{Read}
-use Rattle.trace.specs.declared.read.Read.TheVariants.{Whole, Refused}
-use Rattle.trace.specs.Read.{event_length, read_of, place_of}
-use Rattle.events.specs.declared.event.Answered.{Answered}
+use Rattle.trace.specs.Read.{event_length, read_of, place_of, Read, Whole, Refused}
+use Rattle.events.specs.Reply.{Reply}
 use Rattle.chip.specs.declared.model.Model.{Model}
 use Rattle.events.specs.Event.{Outcome, advance_of}
 use Rattle.chip.specs.Check.{Sound}
 use Rattle.events.specs.Flag.{first_flag, flag_at}
-use Rattle.events.proofs.FlagLaws.{first_none, first_later, first_step}
+use Rattle.events.proofs.FlagLaws.{first_none, first_step}
 use Rattle.events.proofs.Stays.{stays}
 use Rattle.samples.proofs.SamplesLaws.{tail_part, none_left}
-use Rattle.runs.specs.declared.run.Ran.{Ran}
+use Rattle.runs.specs.Figures.{Figures}
 use Rattle.runs.specs.Event.{event_of}
-use Rattle.runs.specs.Run.{Run, ran, ran_of, stop, stop_at, after, loop_of}
+use Rattle.runs.specs.Run.{Run, ran, stop, stop_at, after, loop_of}
 use Rattle.runs.proofs.EventLaws.{event_whole, event_refused, event_taken, event_keeps}
 
 -- the bytes that an event at the front takes
@@ -106,20 +104,17 @@ read_on p s t o e h = rw (tail_part t o, e) at h
 
 -- all that a run gives back
 pub record Final : Type 0 where
-  pub ended : Ran
+  pub ended : Figures
   pub memory : List ℕ
   pub answers : List ℕ
 
-abbrev pub final_of : Ran → List ℕ → List ℕ → Final
+abbrev pub final_of : Figures → List ℕ → List ℕ → Final
 final_of r m buf = record { ended = r; memory = m; answers = buf }
 
 -- the run r after c events and o bytes of a trace of n bytes, with the first flag so far at f and the answers so far in buf
 abbrev pub final : ℕ → ℕ → ℕ → ℕ → List ℕ → Run → Final
 final n f c o buf r =
     final_of (ran r.number r.model (c + r.count) (o + r.offset) (first_flag n f (o + r.flag))) r.memory (sets buf c r.answers)
-
-pub final_start : (n : ℕ) (buf : List ℕ) (r : Run) → final n n 0 0 buf r ≡ final_of (ran_of r) r.memory (sets buf 0 r.answers)
-final_start n buf r = rw (zero-add r.count, zero-add r.offset, zero-add r.flag, first_later n r.flag)
 
 -- what is left of q events at offset o of t
 module _ (t : List ℕ) (q f c o : ℕ) (s : Model) (m buf : List ℕ) (within : o ≤ length t) where
@@ -170,7 +165,7 @@ module _ (t : List ℕ) (q f c o : ℕ) (s : Model) (m buf : List ℕ) (within :
 
   -- a whole event, with what carrying it out gave: a result r and a memory w
   module _ (e : Event) (n : ℕ) (h : read_of (part_of s.part) (drop o t) ≡ Whole e n)
-      (r : Answered) (w : List ℕ) (result : r ≡ (advance_of s m e).result) (memory : w ≡ (advance_of s m e).memory) where
+      (r : Reply) (w : List ℕ) (result : r ≡ (advance_of s m e).result) (memory : w ≡ (advance_of s m e).memory) where
     pub left_unmoved : (r.number ≡ 0 → ⊥) → final (length t) f c o buf (left t q f c o s m buf within) ≡ final_of (ran r.number s c o f) w buf
     left_unmoved z =
         let x = rw (event_whole s m (drop o t) sound e n h, h, ← result, add-zero o) at (left_refused t q f c o s m buf within more inside) in

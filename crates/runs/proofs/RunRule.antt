@@ -9,10 +9,8 @@ use native.Mathlib.Omega.{arith}
 use lib.ListN.{length, drop}
 use lib.Seq.{drop-drop}
 use Rattle.parts.proofs.NumberLaws.{number_positive}
-use Rattle.chip.specs.declared.check.Verdict.{Verdict}
-use Rattle.chip.specs.declared.check.Verdict.TheVariants.{Passed, Failed}
 use Rattle.chip.specs.declared.model.Model.{Model}
-use Rattle.chip.specs.Check.{check_of, Sound}
+use Rattle.chip.specs.Check.{check_of, Sound, Verdict, Passed, Failed}
 use Rattle.events.proofs.FlagLaws.{first_later, first_behind}
 use Rattle.samples.proofs.SamplesLaws.{none_left}
 use Rattle.runs.specs.Event.{event_of}

@@ -10,9 +10,7 @@ use lib.ListN.{length, drop, length-drop}
 use lib.Seq.{drop-drop, sets}
 use Rattle.parts.specs.declared.part.Part.{Part}
 use Rattle.parts.specs.Table.{part_of}
-use Rattle.trace.specs.declared.read.Read.{Read}
-use Rattle.trace.specs.declared.read.Read.TheVariants.{Whole, Refused}
-use Rattle.trace.specs.Read.{read_of}
+use Rattle.trace.specs.Read.{read_of, Read, Whole, Refused}
 use Rattle.trace.specs.Sample.{first_event}
 use Rattle.trace.proofs.ReadLaws.{taken_within}
 use Rattle.chip.specs.declared.model.Model.{Model}

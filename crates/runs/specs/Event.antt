@@ -2,13 +2,9 @@
 -- then the event itself, which gives 7 to 9.
 use Rattle.std.specs.Prelude.{ℕ, List, length}
 use Rattle.parts.specs.Table.{part_of}
-use Rattle.trace.specs.declared.read.Read.{Read}
-use Rattle.trace.specs.declared.read.Read.TheVariants.{Whole, Refused}
-use Rattle.trace.specs.Read.{read_of}
-use Rattle.chip.specs.declared.check.Verdict.{Verdict}
-use Rattle.chip.specs.declared.check.Verdict.TheVariants.{Passed, Failed}
+use Rattle.trace.specs.Read.{read_of, Read, Whole, Refused}
 use Rattle.chip.specs.declared.model.Model.{Model}
-use Rattle.chip.specs.Check.{check_of}
+use Rattle.chip.specs.Check.{check_of, Verdict, Passed, Failed}
 use Rattle.events.specs.Event.{Outcome, keeping, refused, advance_of}
 
 abbrev pub on_read : Read → Model → List ℕ → Outcome

@@ -1,3 +1,4 @@
 pub mod Event
+pub mod Figures
 pub mod Run
 pub mod Rules

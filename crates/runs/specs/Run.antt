@@ -3,12 +3,10 @@ use Rattle.std.specs.Prelude.{ℕ, zero, suc, ◌+◌, Bool, cond, List, [], ◌
 use Rattle.parts.specs.Numbers.{refusal_number}
 use Rattle.parts.specs.Table.{part_of}
 use Rattle.trace.specs.Read.{event_length, read_of, place_of}
-use Rattle.chip.specs.declared.check.Verdict.{Verdict}
-use Rattle.chip.specs.declared.check.Verdict.TheVariants.{Passed, Failed}
 use Rattle.chip.specs.declared.model.Model.{Model}
-use Rattle.chip.specs.Check.{check_of}
+use Rattle.chip.specs.Check.{check_of, Verdict, Passed, Failed}
 use Rattle.events.specs.Flag.{flag_from}
-use Rattle.runs.specs.declared.run.Ran.{Ran}
+use Rattle.runs.specs.Figures.{Figures}
 use Rattle.runs.specs.Event.{event_of}
 
 -- number or 0, state, how many events were accepted, two offsets, memory, and the answers of these events. With 6, 10 and 11 the offset
@@ -24,10 +22,10 @@ pub record Run : Type 0 where
   pub memory : List ℕ
   pub answers : List ℕ
 
-abbrev pub ran : ℕ → Model → ℕ → ℕ → ℕ → Ran
+abbrev pub ran : ℕ → Model → ℕ → ℕ → ℕ → Figures
 ran n s c o f = record { number = n; model = s; count = c; offset = o; flag = f }
 
-abbrev pub ran_of : Run → Ran
+abbrev pub ran_of : Run → Figures
 ran_of r = ran r.number r.model r.count r.offset r.flag
 
 -- a run of the trace t that stops here with a number, and points at a place from here on

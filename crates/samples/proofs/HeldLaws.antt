@@ -37,8 +37,9 @@ use Rattle.chip.specs.declared.model.Model.{Model}
 use Rattle.chip.specs.Model.{model_of}
 use Rattle.events.specs.Event.{Outcome, keeping, expected, spi_sampled, i2c_sampled, advance_on, advance_of}
 use Rattle.events.specs.Flag.{flag_at}
+use Rattle.samples.specs.Kept.{present, LastOn}
 use Rattle.samples.specs.Samples.{stays_on, first_done, first_sample, next_is}
-use Rattle.samples.proofs.NextLaws.{present, next_which}
+use Rattle.samples.proofs.NextLaws.{next_which}
 use Rattle.samples.proofs.SamplesLaws.{End, first, Going, goes_on}
 
 -- ---- nothing happens between two samples with the same levels
@@ -62,12 +63,6 @@ i2c_same z l = by l.scl (I2cEdge.line_of l.sda z)
     by false k = refl
 
 -- ---- an expected answer that holds
-
--- the sample x has the levels that a bus under power saw last
-abbrev pub LastOn : BusState → ℕ → Type 0
-LastOn Unpowered x = ⊥
-LastOn (SpiOn b) x = b.last ≡ SpiLevels.levels_of x
-LastOn (I2cOn b) x = b.last ≡ I2cLevels.levels_of x
 
 module _ (part pins : ℕ) (st : Status) (m : List ℕ) where
   spi_held : (b : Spi) (l : SpiLevel.Levels) → b.last ≡ l

@@ -17,9 +17,8 @@ use Rattle.parts.specs.Table.{is_spi, part_of}
 use Rattle.parts.proofs.Rows.{and_both}
 use Rattle.trace.specs.declared.event.Event.{Event}
 use Rattle.trace.specs.declared.event.Event.TheVariants.{Sample, Expected}
-use Rattle.trace.specs.declared.read.Read.TheVariants.{Whole}
 use Rattle.trace.specs.Event.{sample_limit}
-use Rattle.trace.specs.Read.{read_of}
+use Rattle.trace.specs.Read.{read_of, Whole}
 use Rattle.trace.specs.Sample.{stays_first, first_event}
 use Rattle.trace.proofs.SampleLaws.{stays_which, stays_none, stays_read, no_sample_lem}
 use Rattle.spi.specs.Show as SpiShow
@@ -31,6 +30,7 @@ use Rattle.events.specs.OtherEvent.{OtherThanSample}
 use Rattle.events.specs.Event.{advance_of}
 use Rattle.chip.specs.Check.{Sound}
 use Rattle.chip.proofs.CheckLaws.{sound_in}
+use Rattle.samples.specs.Kept.{present}
 use Rattle.samples.specs.Samples.{stays_on, first_done}
 
 pub limit_spi : (b : Bus) → is_spi b ≡ true → sample_limit b ≡ 32
@@ -46,12 +46,6 @@ answer_small : (a : Answer) → answer_number a < 3
 answer_small Low = omega arith
 answer_small High = omega arith
 answer_small HighZ = omega arith
-
--- the present answer of a bus under power
-abbrev pub present : BusState → ℕ
-present Unpowered = 2
-present (SpiOn x) = answer_number (SpiShow.answer_at x.last x.shown)
-present (I2cOn x) = answer_number (I2cSample.answer_of x.pulling)
 
 present_small : (b : BusState) → present b < 3
 present_small Unpowered = omega arith

@@ -9,12 +9,12 @@ use native.Mathlib.Omega.{arith}
 use lib.Dec.{eqb, ltb}
 use lib.ListN.{length, take, drop, set, get_or, length-drop}
 use lib.Seq.{drop-drop, take_all, sets}
-use borrow.Author.Tests.{ltb-true, ltb-false, ne_eqb}
+use borrow.Author.Tests.{ltb-true, ltb-false}
 use Rattle.parts.specs.declared.part.Part.{Part}
 use Rattle.parts.specs.Table.{part_of}
 use Rattle.trace.specs.declared.event.Event.TheVariants.{Sample, Expected}
 use Rattle.trace.specs.Sample.{stays_first, first_event}
-use Rattle.trace.proofs.SampleLaws.{stays_long, kind_at, value_at}
+use Rattle.trace.proofs.SampleLaws.{stays_long}
 use Rattle.trace.proofs.SuitLaws.{Suits}
 use Rattle.chip.specs.declared.model.BusState.TheVariants.{Unpowered}
 use Rattle.chip.specs.declared.model.Model.{Model}
@@ -24,7 +24,7 @@ use Rattle.events.specs.Flag.{flag_at}
 use Rattle.events.proofs.FlagLaws.{first_none, first_step}
 use Rattle.events.proofs.Keeps.{keeps}
 use Rattle.samples.specs.declared.progress.Progress.{Progress}
-use Rattle.samples.specs.Samples.{Samples, none, one, stays_on, first_done, samples_of, progress, progress_by, next_is, first_sample}
+use Rattle.samples.specs.Samples.{Samples, none, one, stays_on, first_done, samples_of, progress, progress_by, next_is}
 
 -- the part of t from o on, as a slice of it has it
 pub tail_part : (t : List ℕ) (o : ℕ) → take (length t - o) (drop o t) ≡ drop o t
@@ -87,14 +87,6 @@ module _ (limit a q c : ℕ) (u : List ℕ) (h : next_is limit a q c u ≡ true)
 -- two bytes are left
 pub room : (limit a q c o : ℕ) (t : List ℕ) → next_is limit a q c (drop o t) ≡ true → o + 2 ≤ length t
 room limit a q c o t h = let l = stays_long limit a (drop o t) (first limit a q c (drop o t) h) in omega (arith, length-drop o t)
-
--- the sample that the event at offset o amounts to, by its kind
-module _ (last : ℕ) (t : List ℕ) (o : ℕ) where
-  pub first_4 : get_or t o 0 ≡ 4 → first_sample last (drop o t) ≡ get_or t (o + 1) 0
-  first_4 k = rw (kind_at t o, k) (value_at t o)
-
-  pub first_other : (get_or t o 0 ≡ 4 → ⊥) → first_sample last (drop o t) ≡ last
-  first_other k = rw (kind_at t o, ne_eqb (get_or t o 0) 4 k)
 
 -- the event suits any part
 first_suits : (p : Part) (u : List ℕ) → Suits p (first_event u)

@@ -4,7 +4,7 @@ ghost use Rattle.selection.specs.Edge.{edge_of, clock_edge};
 
 use crate::levels::Levels;
 
-#[derive(Clone, Copy)]
+#[derive(Clone, Copy, Debug, PartialEq, Eq)]
 pub enum Edge {
     // CS# falls
     Select,
@@ -20,36 +20,24 @@ pub enum Edge {
 pub fn edge_of(before: Levels, now: Levels) -> Edge
     ensures { result ≡ edge_of before now }
 {
-    if now.cs {
-        if before.cs {
-            Edge::Quiet
-        } else {
-            Edge::Deselect
-        }
-    } else {
-        if before.cs {
-            Edge::Select
-        } else {
-            clock_edge(before.hold, now.hold, before.sck, now.sck, now.si)
-        }
+    match (before.cs, now.cs) {
+        (true, false) => Edge::Select,
+        (false, true) => Edge::Deselect,
+        (false, false) => clock_edge(before, now),
+        (true, true) => Edge::Quiet,
     }
 }
 
-// Of a part that is selected in both samples: HOLD# before and now, SCK before and now, SI now.
-pub fn clock_edge(before: bool, hold: bool, was: bool, sck: bool, si: bool) -> Edge
-    ensures { result ≡ clock_edge before hold was sck si }
+// Of a part that is selected in both samples: an edge of SCK counts if HOLD# is 1 in both.
+pub fn clock_edge(before: Levels, now: Levels) -> Edge
+    ensures { result ≡ clock_edge before.hold now.hold before.sck now.sck now.si }
 {
-    if before {
-        if hold {
-            if was {
-                if sck { Edge::Quiet } else { Edge::Fall }
-            } else {
-                if sck { Edge::Rise { si } } else { Edge::Quiet }
-            }
-        } else {
-            Edge::Quiet
-        }
-    } else {
-        Edge::Quiet
+    if !(before.hold && now.hold) {
+        return Edge::Quiet;
+    }
+    match (before.sck, now.sck) {
+        (false, true) => Edge::Rise { si: now.si },
+        (true, false) => Edge::Fall,
+        _ => Edge::Quiet,
     }
 }

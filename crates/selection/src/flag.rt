@@ -8,9 +8,5 @@ use crate::levels::Levels;
 pub fn flag_of(before: Levels, now: Levels) -> bool
     ensures { result ≡ flag_of before now }
 {
-    if serial::level::differ(before.wp, now.wp) {
-        if before.cs { false } else { !now.cs }
-    } else {
-        false
-    }
+    before.wp != now.wp && !before.cs && !now.cs
 }

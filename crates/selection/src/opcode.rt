@@ -4,7 +4,7 @@ ghost use Rattle.selection.specs.Opcode.{command_of};
 
 use parts::part::Part;
 
-#[derive(Clone, Copy)]
+#[derive(Clone, Copy, Debug, PartialEq, Eq)]
 pub enum Command {
     WREN,
     WRDI,
@@ -19,6 +19,7 @@ pub enum Command {
     Unknown,
 }
 
+#[tactic(auto, unfolding(crate::specs::Opcode::command_of))]
 pub fn command_of(part: Part, opcode: u32) -> Command
     ensures { result ≡ command_of part opcode }
 {
@@ -29,27 +30,9 @@ pub fn command_of(part: Part, opcode: u32) -> Command
         0x01 => Command::WRSR,
         0x03 => Command::READ,
         0x02 => Command::WRITE,
-        0x0B => {
-            if part.fstrd {
-                Command::FSTRD
-            } else {
-                Command::Unknown
-            }
-        }
-        0x9F => {
-            if part.rdid {
-                Command::RDID
-            } else {
-                Command::Unknown
-            }
-        }
-        0xB9 => {
-            if part.sleep {
-                Command::SLEEP
-            } else {
-                Command::Unknown
-            }
-        }
+        0x0B if part.fstrd => Command::FSTRD,
+        0x9F if part.rdid => Command::RDID,
+        0xB9 if part.sleep => Command::SLEEP,
         _ => Command::Unknown,
     }
 }

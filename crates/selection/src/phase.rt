@@ -5,7 +5,7 @@ ghost use Rattle.selection.specs.Phase.{width};
 use parts::part::Part;
 
 // The bits that come in.
-#[derive(Clone, Copy)]
+#[derive(Clone, Copy, Debug, PartialEq, Eq)]
 pub enum Field {
     Opcode,
     ReadAddress,
@@ -20,7 +20,7 @@ pub enum Field {
 }
 
 // Where the bits that go out come from.
-#[derive(Clone, Copy)]
+#[derive(Clone, Copy, Debug, PartialEq, Eq)]
 pub enum Source {
     Memory { address: u32 },
     Register,
@@ -29,7 +29,7 @@ pub enum Source {
 }
 
 // What is done when CS# rises.
-#[derive(Clone, Copy)]
+#[derive(Clone, Copy, Debug, PartialEq, Eq)]
 pub enum Action {
     SetLatch,
     ClearLatch,
@@ -37,7 +37,7 @@ pub enum Action {
     WriteStatus { byte: u8 },
 }
 
-#[derive(Clone, Copy)]
+#[derive(Clone, Copy, Debug, PartialEq, Eq)]
 pub enum Phase {
     // no selection
     Rest,
@@ -57,15 +57,7 @@ pub fn width(part: Part, field: Field) -> u8
     ensures { result ≡ width part field }
 {
     match field {
-        Field::Opcode => 8,
-        Field::ReadAddress => part.width,
-        Field::FastAddress => part.width,
-        Field::WriteAddress => part.width,
-        Field::Dummy { address: _ } => 8,
-        Field::Data {
-            address: _,
-            whole: _,
-        } => 8,
-        Field::StatusByte => 8,
+        Field::ReadAddress | Field::FastAddress | Field::WriteAddress => part.width,
+        Field::Opcode | Field::Dummy { .. } | Field::Data { .. } | Field::StatusByte => 8,
     }
 }

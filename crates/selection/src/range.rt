@@ -10,13 +10,8 @@ fn field_in(part: Part, field: Field) -> bool
     ensures { result ≡ field_in part field }
 {
     match field {
-        Field::Opcode => true,
-        Field::ReadAddress => true,
-        Field::FastAddress => true,
-        Field::WriteAddress => true,
-        Field::Dummy { address } => address < part.size,
-        Field::Data { address, whole: _ } => address < part.size,
-        Field::StatusByte => true,
+        Field::Dummy { address } | Field::Data { address, .. } => address < part.size,
+        _ => true,
     }
 }
 
@@ -35,37 +30,17 @@ pub fn phase_in(part: Part, phase: Phase) -> bool
     ensures { result ≡ phase_in part phase }
 {
     match phase {
-        Phase::Rest => true,
-        Phase::Ignoring => true,
+        Phase::Rest | Phase::Ignoring | Phase::Waiting { .. } => true,
         Phase::Taking {
             field,
             count,
             value,
         } => {
-            if field_in(part, field) {
-                if count < crate::phase::width(part, field) {
-                    serial::bits::has_bits(value, count)
-                } else {
-                    false
-                }
-            } else {
-                false
-            }
+            field_in(part, field)
+                && count < crate::phase::width(part, field)
+                && serial::bits::has_bits(value, count)
         }
-        Phase::Showing { source, bit } => {
-            if source_in(part, source) {
-                bit < 8
-            } else {
-                false
-            }
-        }
-        Phase::Waiting { action: _ } => true,
-        Phase::Pending { address, byte: _ } => {
-            if part.late {
-                address < part.size
-            } else {
-                false
-            }
-        }
+        Phase::Showing { source, bit } => source_in(part, source) && bit < 8,
+        Phase::Pending { address, .. } => part.late && address < part.size,
     }
 }

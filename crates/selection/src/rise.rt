@@ -74,7 +74,7 @@ fn phase_after_data(part: Part, address: u32, byte: u8) -> Phase
 }
 
 // The phase after the last bit of a field.
-fn phase_after_field(part: Part, field: Field, value: u32) -> Phase
+pub fn phase_after_field(part: Part, field: Field, value: u32) -> Phase
     requires { Fit part × FieldIn part field × (value < 2 ^ width part field) }
     ensures { result ≡ phase_after_field part field value }
 {
@@ -91,7 +91,7 @@ fn phase_after_field(part: Part, field: Field, value: u32) -> Phase
             whole: false,
         }),
         Field::Dummy { address } => showing(Source::Memory { address }),
-        Field::Data { address, whole: _ } => phase_after_data(part, address, value as u8),
+        Field::Data { address, .. } => phase_after_data(part, address, value as u8),
         Field::StatusByte => waiting(Action::WriteStatus { byte: value as u8 }),
     }
 }
@@ -105,14 +105,8 @@ fn next_source(part: Part, source: Source) -> Source
         Source::Memory { address } => Source::Memory {
             address: serial::address::next_address(part.size, address),
         },
-        Source::Register => source,
-        Source::Identity { index } => {
-            if index < 3 {
-                Source::Identity { index: index + 1 }
-            } else {
-                source
-            }
-        }
+        Source::Identity { index } if index < 3 => Source::Identity { index: index + 1 },
+        Source::Identity { .. } | Source::Register => source,
     }
 }
 
@@ -167,15 +161,13 @@ pub fn after_rise(part: Part, phase: Phase, si: bool) -> Phase
     ensures { result ≡ after_rise part phase si }
 {
     match phase {
-        Phase::Rest => phase,
-        Phase::Ignoring => phase,
+        Phase::Rest | Phase::Ignoring | Phase::Waiting { .. } => phase,
         Phase::Taking {
             field,
             count,
             value,
         } => take_bit(part, field, count, value, si),
         Phase::Showing { source, bit } => show_bit(part, source, bit),
-        Phase::Waiting { action: _ } => phase,
-        Phase::Pending { address, byte: _ } => begin_next(part, address, si),
+        Phase::Pending { address, .. } => begin_next(part, address, si),
     }
 }

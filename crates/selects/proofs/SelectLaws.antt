@@ -3,12 +3,14 @@
 use Prim.Native.Nat.{ℕ, suc, ◌+◌, ◌-◌, ◌/◌, ◌%◌, ◌<◌, ◌≤◌}
 use mathlib.Core.Path.{◌≡◌, refl, sym, ap, ap₂, ◌∙◌, subst}
 use mathlib.Core.Bool.{Bool, true, false, cond, false≢true}
-use mathlib.Core.List.{List, [], ◌∷◌, ◌++◌}
+use mathlib.Core.List.{List, [], ◌∷◌, ◌++◌, append-nil}
 use native.Mathlib.Omega.{arith}
 use lib.Dec.{ltb, eqb}
 use lib.ListN.{length, get_or, take, drop, replicate, length-drop, length-append, length-replicate}
-use lib.Seq.{take_at}
-use borrow.Author.Tests.{lt-ltb, le-ltb, ltb-true, ltb-false}
+use lib.Seq.{take_at, take_all}
+use Rattle.std.proofs.lemmas.List.{drop_all}
+use borrow.Rule.Slice.PartMut.{put_mid}
+use borrow.Author.Tests.{lt-ltb, le-ltb, ltb-true, ltb-false, eq-eqb, ne_eqb}
 use Rattle.parts.specs.declared.answer.Answer.TheVariants.{HighZ}
 use Rattle.parts.specs.declared.part.Part.{Part}
 use Rattle.parts.specs.declared.status.Status.{Status}
@@ -63,6 +65,17 @@ pub no_bit : (vs : List ℕ) → length vs ≡ 0 → false ≡ last_si false vs
 no_bit [] l = refl
 no_bit (v ∷ vs) l = absurd (omega arith)
 
+-- what lies from n on, as a slice of it
+pub from_on : (vs : List ℕ) (n : ℕ) → take (length vs - n) (drop n vs) ≡ drop n vs
+from_on vs n = take_all (length vs - n) (drop n vs) (omega (arith, length-drop n vs))
+
+-- the first of count bytes that are driven
+pub first_none : (count k whole at x : ℕ) → count ≡ k → count ≡ 0 → cond (eqb k 0) whole at ≡ x → whole ≡ x
+first_none count k whole at x e z h = rw (eq-eqb k 0 (omega arith)) at h
+
+pub first_some : (count k whole at x : ℕ) → count ≡ k → 0 < count → cond (eqb k 0) whole at ≡ x → at ≡ x
+first_some count k whole at x e z h = rw (ne_eqb k 0 (λ q. omega arith)) at h
+
 -- ---- a buffer whose first n bytes are 255
 
 module _ (out : List ℕ) (n : ℕ) (l : n ≤ length out) where
@@ -71,6 +84,20 @@ module _ (out : List ℕ) (n : ℕ) (l : n ≤ length out) where
 
   pub filled_length : length (replicate n 255 ++ drop n out) ≡ length out
   filled_length = length-append (replicate n 255) (drop n out) ∙ rw (length-replicate {A = ℕ} n 255, length-drop n out) (omega (arith, l))
+
+  -- how many follow them
+  pub rest_long : (input : List ℕ) → length out ≡ length input
+      → length (take (length (replicate n 255 ++ drop n out) - n) (drop n (replicate n 255 ++ drop n out))) ≡ length input - n
+  rest_long input e =
+      let filled = replicate n 255 ++ drop n out in
+      rw (from_on filled n) (omega (arith, length-drop n filled, filled_length, e))
+
+  -- others put in their place
+  pub rest_put : (back : List ℕ) → put_mid n (length (replicate n 255 ++ drop n out) - n) (replicate n 255 ++ drop n out) back ≡ replicate n 255 ++ back
+  rest_put back =
+      let filled = replicate n 255 ++ drop n out in
+      let none : drop (length filled - n) (drop n filled) ≡ [] = drop_all (length filled - n) (drop n filled) (omega (arith, length-drop n filled)) in
+      rw (filled_take, none, append-nil)
 
 -- ---- the rest, whether the head was whole or not
 

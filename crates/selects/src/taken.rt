@@ -1,5 +1,5 @@
 // One SPI selection as bytes: head, what comes back, what is stored, and CS# rising.
-ghost use Rattle.std.specs.Prelude.{◌≡◌, true, false, cond, eqb, length};
+ghost use Rattle.std.specs.Prelude.{◌≡◌, true, false, length};
 ghost use Rattle.parts.specs.declared.answer.Answer.TheVariants as Answer;
 ghost use Rattle.selection.specs.declared.phase.Phase.TheVariants as Phase;
 ghost use Rattle.spi_status.specs.Deselect.{status_after, asleep_after};
@@ -8,6 +8,7 @@ ghost use Rattle.chip.specs.Check.{Sound};
 ghost use Rattle.byte_path.specs.PinPath.{last_si, bytes_of, first_driven, driven_count, selection_of};
 ghost use Rattle.byte_rest.specs.Rest.{ended_model};
 
+use byte_path::head::Head;
 use chip::model::{BusState, Model};
 use parts::answer::Answer;
 use parts::status::Status;
@@ -16,22 +17,20 @@ use selection::phase::Phase;
 use spi::sample::Spi;
 
 // The next state, the index of the first driven byte and how many are driven.
-#[derive(Clone, Copy)]
-pub struct Taken {
+#[derive(Clone, Copy, Debug, PartialEq, Eq)]
+pub struct Selected {
     pub model: Model,
+    // the input's length if none is driven, as `first_driven` and C count it: an Option would be made this number again at each edge
     pub first: usize,
     pub count: usize,
 }
 
 // SI at the last bit, 0 if there is none.
+#[tactic(auto, using(crate::proofs::SelectLaws::last_bit_lem, crate::proofs::SelectLaws::no_bit))]
 fn last_si(input: &[u8]) -> bool
     ensures { result ≡ last_si false input.now }
 {
-    let count = input.len();
-    if count == 0 {
-        return false;
-    }
-    input[count - 1] % 2 == 1
+    input.last().is_some_and(|byte| byte % 2 == 1)
 }
 
 // The state after CS# has risen in this phase.
@@ -55,12 +54,6 @@ fn risen(model: Model, wp: bool, asleep: bool, phase: Phase, si: bool) -> Model
     chip::model::with_bus(model, status, BusState::SpiOn { spi })
 }
 
-fn first_of(count: usize, at: usize, whole: usize) -> usize
-    ensures { result ≡ cond (eqb count 0) whole at }
-{
-    if count == 0 { whole } else { at }
-}
-
 // A selection of an SPI part under power whose CS# was 1.
 pub fn select_bytes(
     model: Model,
@@ -69,7 +62,7 @@ pub fn select_bytes(
     input: &[u8],
     output: &mut [u8],
     memory: &mut [u8],
-) -> Taken
+) -> Selected
     requires { (model.bus ≡ BusState.SpiOn spi) × (spi.last.cs ≡ true) × Sound model memory.old × (length output.old ≡ length input.now) }
     ensures model { result.model ≡ (selection_of wp model memory.old input.now).model }
     ensures memory { memory.new ≡ (selection_of wp model memory.old input.now).memory }
@@ -79,17 +72,19 @@ pub fn select_bytes(
 {
     let part = parts::part::part_of(model.part as usize);
     let status = model.status;
-    let asleep = spi.asleep;
-    let head = byte_path::head::head_of(part, spi::sample::select(asleep), input, output);
-    let phase = head.phase;
-    let at = head.at;
-    let whole = input.len();
-    let count = byte_rest::data::show(part, status, phase, memory, output, at);
-    byte_rest::data::store(part, status, phase, input, at, memory);
-    let end = byte_rest::data::end_phase(phase, at < whole);
-    Taken {
-        model: risen(model, wp, asleep, end, last_si(input)),
-        first: first_of(count, at, whole),
+    let Head { phase, at } = byte_path::head::head_of(
+        part,
+        spi::sample::select(spi.asleep),
+        input,
+        output,
+    );
+    let count = byte_rest::data::show(part, status, phase, memory, &mut output[at..]);
+    let first = if count == 0 { input.len() } else { at };
+    byte_rest::data::store(part, status, phase, &input[at..], memory);
+    let end = byte_rest::data::end_phase(phase, at < input.len());
+    Selected {
+        model: risen(model, wp, spi.asleep, end, last_si(input)),
+        first,
         count,
     }
 }

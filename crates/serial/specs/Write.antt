@@ -1,14 +1,17 @@
 -- What a sample writes: nothing, or one byte at one address.
-use Rattle.std.specs.Prelude.{ℕ, ◌<◌, List, set}
+use Rattle.std.specs.Prelude.{ℕ, ◌<◌, List, set, Option, Some, None}
 use Rattle.serial.specs.declared.write.Write.{Write}
-use Rattle.serial.specs.declared.write.Write.TheVariants.{Nothing, Byte}
 
--- the memory after a write
-abbrev pub applied : Write → List ℕ → List ℕ
-applied Nothing m = m
-applied (Byte a v) m = set m a v
+-- the write of a byte
+abbrev pub write_at : ℕ → ℕ → Option Write
+write_at a v = Some (record { address = a; value = v })
+
+-- the memory after what a sample writes
+abbrev pub applied : Option Write → List ℕ → List ℕ
+applied None m = m
+applied (Some w) m = set m w.address w.value
 
 -- a write stays within a memory of that size
-abbrev pub Within : ℕ → Write → Type 0
-Within size Nothing = Unit {0}
-Within size (Byte a v) = a < size
+abbrev pub Within : ℕ → Option Write → Type 0
+Within size None = Unit {0}
+Within size (Some w) = w.address < size

@@ -7,7 +7,7 @@ pub fn shift_in(value: u32, bit: bool) -> u32
     requires { value < 2147483648 }
     ensures { result ≡ shifted value bit }
 {
-    let low = parts::status::bit_of(bit) as u32;
+    let low = u32::from(bit);
     2 * value + low
 }
 

@@ -1,7 +1,6 @@
-// What both serial buses share: bits into numbers, addresses that go up, the store of one byte, and levels that differ.
+// What both serial buses share: bits into numbers, addresses that go up, and the store of one byte.
 #![tactic(auto)]
 
 pub mod address;
 pub mod bits;
-pub mod level;
 pub mod write;

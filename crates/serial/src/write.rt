@@ -2,20 +2,17 @@
 ghost use Rattle.std.specs.Prelude.{◌≡◌, length};
 ghost use Rattle.serial.specs.Write.{applied, Within};
 
-#[derive(Clone, Copy)]
-pub enum Write {
-    Nothing,
-    Byte { address: u32, value: u8 },
+#[derive(Clone, Copy, Debug, PartialEq, Eq)]
+pub struct Write {
+    pub address: u32,
+    pub value: u8,
 }
 
-pub fn apply(write: Write, memory: &mut [u8])
+pub fn apply(write: Option<Write>, memory: &mut [u8])
     requires { Within (length memory.old) write }
     ensures { memory.new ≡ applied write memory.old }
 {
-    match write {
-        Write::Nothing => {}
-        Write::Byte { address, value } => {
-            memory[address as usize] = value;
-        }
+    if let Some(Write { address, value }) = write {
+        memory[address as usize] = value;
     }
 }

@@ -1,26 +1,24 @@
 -- A call that begins with 0 is the call on the image's state. Assumes nothing.
 use Prim.Native.Nat.{ℕ}
 use mathlib.Core.Path.{◌≡◌, refl, sym, ap, ◌∙◌}
-use mathlib.Core.Bool.{Bool, true, false, cond}
-use mathlib.Core.List.{List, []}
+use mathlib.Core.Bool.{Bool, true, false}
+use mathlib.Core.List.{List}
 use lib.ListN.{length}
 use lib.Seq.{sets}
 use Rattle.chip.specs.Check.{Sound}
 use Rattle.chip.specs.declared.model.Model.{Model}
 use Rattle.byte_path.specs.Select.{Select, part_select, select_of}
-use Rattle.selects.specs.declared.select.Selected.{Selected}
-use Rattle.selects.specs.Selected.{selected_of}
-use Rattle.runs.specs.declared.run.Ran.{Ran}
+use Rattle.selects.specs.Selected.{SelectTold, selected_of}
+use Rattle.runs.specs.Figures.{Figures}
 use Rattle.runs.specs.Event.{event_of}
 use Rattle.runs.specs.Run.{ran_of, loop_of, run_of}
 use Rattle.image.specs.Taken.{image_of, state_of, in_range, taken, Bytes}
 use Rattle.image.proofs.TakenLaws.{taken_passes}
 use Rattle.calls.specs.Result.{event_result, run_result, select_result}
-use Rattle.calls.specs.Calls.{opens, event_left, event_call, state_number, RunCall, run_left, run_call, select_left, select_call, open_number}
+use Rattle.calls.specs.Calls.{opens, event_left, event_call, run_left, run_call, select_left, select_call, open_number}
 use Rattle.calls.proofs.InRange.{select_range}
-use Rattle.calls.proofs.Opening.{Opened, opened, opened_taken, event_kept_lem, run_kept_lem, select_kept_lem}
-use Rattle.image_run.specs.declared.event.Told.{Told}
-use Rattle.image_run.specs.Sampled.{told_by}
+use Rattle.calls.proofs.Opening.{Opened, opened, opened_taken, opened_same, event_kept_lem, run_kept_lem, select_kept_lem}
+use Rattle.image_run.specs.Told.{EventTold, told_by}
 
 module _ (b m result : List ℕ) (h : opens b result ≡ true) where
   pub event_opened : (t : List ℕ) → event_call b t m result ≡ event_left (event_of (state_of b) m t) result
@@ -36,37 +34,6 @@ module _ (b m result : List ℕ) (h : opens b result ≡ true) where
         → select_call b wp input output m result ≡ select_left (part_select wp (state_of b) input output m) result
     unfolding select_call select_of
     select_opened wp input output = rw (h, sound)
-
--- ---- what a run without answers gives is the same, whatever it was lent for them
-
-answers_apart : (b t : List ℕ) (quota : ℕ) (m answers result : List ℕ)
-    → ((run_call b t quota m answers result).number ≡ (run_call b t quota m [] result).number)
-    × ((run_call b t quota m answers result).state ≡ (run_call b t quota m [] result).state)
-    × ((run_call b t quota m answers result).memory ≡ (run_call b t quota m [] result).memory)
-    × ((run_call b t quota m answers result).result ≡ (run_call b t quota m [] result).result)
-unfolding run_call
-answers_apart b t quota m answers result = by (opens b result)
-  where
-    pick : Bool → List ℕ → RunCall
-    pick y a =
-        cond y (run_left (run_of quota t (state_of b) m) a result)
-        (record { number = state_number; state = b; memory = m; answers = a; result = run_result 0 0 (length t) result })
-
-    by : (y : Bool)
-        → ((pick y answers).number ≡ (pick y []).number) × ((pick y answers).state ≡ (pick y []).state) × ((pick y answers).memory ≡ (pick y []).memory) × ((pick y answers).result ≡ (pick y []).result)
-    by true = (refl, refl, refl, refl)
-    by false = (refl, refl, refl, refl)
-
-pub without_answers : (b t : List ℕ) (quota : ℕ) (m answers result : List ℕ) (n : ℕ) (image memory r : List ℕ)
-    → n ≡ (run_call b t quota m answers result).number → image ≡ (run_call b t quota m answers result).state
-    → memory ≡ (run_call b t quota m answers result).memory → r ≡ (run_call b t quota m answers result).result
-    → (n ≡ (run_call b t quota m [] result).number)
-    × (image ≡ (run_call b t quota m [] result).state)
-    × (memory ≡ (run_call b t quota m [] result).memory)
-    × (r ≡ (run_call b t quota m [] result).result)
-without_answers b t quota m answers result n image memory r en ei em er =
-    let k = answers_apart b t quota m answers result in
-    (en ∙ k.0, ei ∙ k.1, em ∙ k.2, er ∙ k.3)
 
 -- ---- what a call that is refused at its beginning gives and leaves
 
@@ -96,14 +63,18 @@ module _ (b m result : List ℕ) (bytes : Bytes b) (n : ℕ) (e : n ≡ open_num
 
 -- ---- and what one that goes on gives and leaves
 
-module _ (b m result : List ℕ) (n : ℕ) (e : n ≡ open_number b (length result) (length m)) (z : n ≡ 0) where
+module _ (b m result : List ℕ) (e : 0 ≡ open_number b (length result) (length m)) where
   pub begun : Opened b result m
-  begun = opened b result m (sym e ∙ z)
+  begun = opened b result m (sym e)
 
   pub begun_taken : taken b ≡ true
   begun_taken = opened_taken b result begun.takes
 
-  pub event_done : (t : List ℕ) (told : Told) (image memory r : List ℕ) → told ≡ told_by (event_of (state_of b) m t) → image ≡ image_of (event_of (state_of b) m t).result.model
+  -- the image of the state that it reads as is the buffer
+  pub begun_same : Bytes b → b ≡ image_of (state_of b)
+  begun_same bytes = sym (opened_same b result begun.takes bytes)
+
+  pub event_done : (t : List ℕ) (told : EventTold) (image memory r : List ℕ) → told ≡ told_by (event_of (state_of b) m t) → image ≡ image_of (event_of (state_of b) m t).result.model
       → memory ≡ (event_of (state_of b) m t).memory → r ≡ event_result told.answer told.flag result
       → (told.number ≡ (event_call b t m result).number)
       × (image ≡ (event_call b t m result).state)
@@ -111,9 +82,9 @@ module _ (b m result : List ℕ) (n : ℕ) (e : n ≡ open_number b (length resu
       × (r ≡ (event_call b t m result).result)
   event_done t told image memory r et ei em er =
       rw (event_opened b m result begun.takes t)
-      (ap (λ (x : Told). x.number) et, ei, em, er ∙ ap (λ (x : Told). event_result x.answer x.flag result) et)
+      (ap (λ (x : EventTold). x.number) et, ei, em, er ∙ ap (λ (x : EventTold). event_result x.answer x.flag result) et)
 
-  pub run_done : (t : List ℕ) (quota : ℕ) (answers : List ℕ) (ran : Ran) (image memory a r : List ℕ) → ran ≡ ran_of (loop_of quota t (state_of b) m)
+  pub run_done : (t : List ℕ) (quota : ℕ) (answers : List ℕ) (ran : Figures) (image memory a r : List ℕ) → ran ≡ ran_of (loop_of quota t (state_of b) m)
       → image ≡ image_of (loop_of quota t (state_of b) m).model → memory ≡ (loop_of quota t (state_of b) m).memory
       → a ≡ sets answers 0 (loop_of quota t (state_of b) m).answers → r ≡ run_result ran.count ran.offset ran.flag result
       → (ran.number ≡ (run_call b t quota m answers result).number)
@@ -123,7 +94,7 @@ module _ (b m result : List ℕ) (n : ℕ) (e : n ≡ open_number b (length resu
       × (r ≡ (run_call b t quota m answers result).result)
   run_done t quota answers ran image memory a r en ei em ea er =
       rw (run_opened b m result begun.takes begun.passes t quota answers)
-      (ap (λ (x : Ran). x.number) en, ei, em, ea, er ∙ ap (λ (x : Ran). run_result x.count x.offset x.flag result) en)
+      (ap (λ (x : Figures). x.number) en, ei, em, ea, er ∙ ap (λ (x : Figures). run_result x.count x.offset x.flag result) en)
 
   -- a selection on the state that the image reads as, which is what the code made of it
   module _ (wp : Bool) (input output : List ℕ) (s : Model) (k : s ≡ state_of b) where
@@ -141,12 +112,12 @@ module _ (b m result : List ℕ) (n : ℕ) (e : n ≡ open_number b (length resu
     same_select = rw begun.passes
 
     -- its state still passes
-    pub after_passes : (selected : Selected) → selected ≡ selected_of after → in_range selected.model ≡ true
+    pub after_passes : (selected : SelectTold) → selected ≡ selected_of after → in_range selected.model ≡ true
     after_passes selected es =
-        ap (λ (x : Selected). in_range x.model) (es ∙ ap selected_of (same_state ∙ same_select))
+        ap (λ (x : SelectTold). in_range x.model) (es ∙ ap selected_of (same_state ∙ same_select))
         ∙ select_range wp (state_of b) input output m (taken_passes b begun_taken)
 
-    pub select_done : (selected : Selected) (image memory o r : List ℕ) → selected ≡ selected_of after → image ≡ image_of selected.model → memory ≡ after.memory
+    pub select_done : (selected : SelectTold) (image memory o r : List ℕ) → selected ≡ selected_of after → image ≡ image_of selected.model → memory ≡ after.memory
         → o ≡ after.output → r ≡ select_result selected.first selected.count result
         → (selected.number ≡ (select_call b wp input output m result).number)
         × (image ≡ (select_call b wp input output m result).state)
@@ -156,4 +127,4 @@ module _ (b m result : List ℕ) (n : ℕ) (e : n ≡ open_number b (length resu
     select_done selected image memory o r es ei em eo er =
         let e : selected ≡ selected_of taking = es ∙ ap selected_of same_state in
         rw (select_opened b m result begun.takes begun.passes wp input output)
-        (ap (λ (x : Selected). x.number) e, ei ∙ ap (λ (x : Selected). image_of x.model) e, eo ∙ ap (λ (x : Select). x.output) same_state, em ∙ ap (λ (x : Select). x.memory) same_state, er ∙ ap (λ (x : Selected). select_result x.first x.count result) e)
+        (ap (λ (x : SelectTold). x.number) e, ei ∙ ap (λ (x : SelectTold). image_of x.model) e, eo ∙ ap (λ (x : Select). x.output) same_state, em ∙ ap (λ (x : Select). x.memory) same_state, er ∙ ap (λ (x : SelectTold). select_result x.first x.count result) e)

@@ -4,7 +4,7 @@ use mathlib.Core.Path.{◌≡◌, refl}
 use mathlib.Core.List.{List}
 use lib.ListN.{length}
 use borrow.Author.Tests.{eq-eqb, ne_eqb}
-use Rattle.model.specs.declared.make.Made.{Made}
+use Rattle.model.specs.Made.{Made}
 use Rattle.model.specs.Make.{make_of}
 use Rattle.image.specs.Taken.{image_of}
 use Rattle.calls.specs.Calls.{make_call}

@@ -1,7 +1,10 @@
 // The exported calls. Part, pins, saved bits and WP# have 32 bits, so that a host's 256 is not cut to 0: it is refused, or is a high WP#.
-ghost use Rattle.std.specs.Prelude.{◌≡◌, not, [], eqb};
+ghost use Rattle.std.specs.Prelude.{◌≡◌, false, not, [], eqb};
+ghost use Rattle.parts.specs.Numbers.{refusal_number};
 ghost use Rattle.calls.specs.Calls.{make_call, event_call, run_call, select_call};
+ghost use Rattle.calls.specs.Result.{event_result, select_result};
 
+use parts::answer::Answer;
 use parts::refusal::Refusal;
 
 // Writes the image of a model without power, or refuses with 1 or 2 and leaves the buffer.
@@ -10,16 +13,23 @@ pub extern "C" fn sildrokk_make(part: u32, pins: u32, bits: u32, state: &mut [u8
     ensures number { result ≡ (make_call part pins bits state.old).number }
     ensures state { state.new ≡ (make_call part pins bits state.old).state }
 {
-    let made = model::make::make(part, pins, bits);
-    if made.number != 0 {
-        return made.number;
+    match model::make::make(part, pins, bits) {
+        Err(refusal) => refusal.number(),
+        Ok(_) if state.len() != 32 => Refusal::StateRange.number(),
+        Ok(model) => {
+            image::taken::put_image(state, model);
+            0
+        }
     }
-    if state.len() != 32 {
-        return Refusal::StateRange.number();
-    }
-    let model = made.model;
-    image::taken::put_image(state, model);
-    0
+}
+
+// A refused event drives nothing and sets no flag.
+fn refuse_event(res: &mut [u8], refusal: Refusal) -> u8
+    ensures number { result ≡ refusal_number refusal }
+    ensures res { res.new ≡ event_result 2 false res.old }
+{
+    call_ends::result::write_event(res, Answer::HighZ.number(), false);
+    refusal.number()
 }
 
 // The event at the front of the bytes. A result of 32 bytes gets its answer and its flag, or 2 and 0 if it is refused.
@@ -35,14 +45,16 @@ pub extern "C" fn sildrokk_event(
     ensures memory { memory.new ≡ (event_call state.old event.now memory.old res.old).memory }
     ensures res { res.new ≡ (event_call state.old event.now memory.old res.old).result }
 {
-    let number = call_ends::open::number(state, res.len(), memory.len());
-    if number != 0 {
-        call_ends::result::write_event(res, 2, false);
-        return number;
+    if let Err(refusal) = call_ends::open::check(state, res.len(), memory.len()) {
+        return refuse_event(res, refusal);
     }
-    let told = image_run::event::event_on(state, event, memory);
-    call_ends::result::write_event(res, told.answer, told.flag);
-    told.number
+    match image_run::event::event_on(state, event, memory) {
+        Ok(told) => {
+            call_ends::result::write_event(res, told.answer.number(), told.flag);
+            0
+        }
+        Err(refusal) => refuse_event(res, refusal),
+    }
 }
 
 // At most quota events from the front of a trace; the answer of the i-th accepted event goes to answers[i], while there is room. A result
@@ -62,14 +74,13 @@ pub extern "C" fn sildrokk_replay(
     ensures answers { answers.new ≡ (run_call state.old trace.now quota memory.old answers.old res.old).answers }
     ensures res { res.new ≡ (run_call state.old trace.now quota memory.old answers.old res.old).result }
 {
-    let number = call_ends::open::number(state, res.len(), memory.len());
-    if number != 0 {
-        call_ends::result::write_run(res, 0, 0, trace.len() as u64);
-        return number;
+    if let Err(refusal) = call_ends::open::check(state, res.len(), memory.len()) {
+        call_ends::result::write_run(res, 0, 0, trace.len());
+        return refusal.number();
     }
     let ran = image_run::run::run_on(state, trace, quota as usize, memory, answers);
-    call_ends::result::write_run(res, ran.count as u64, ran.offset as u64, ran.flag as u64);
-    ran.number
+    call_ends::result::write_run(res, ran.count, ran.offset, ran.flag);
+    parts::refusal::number_of(ran.refusal)
 }
 
 // The same without the answers.
@@ -86,8 +97,16 @@ pub extern "C" fn sildrokk_run(
     ensures memory { memory.new ≡ (run_call state.old trace.now quota memory.old [] res.old).memory }
     ensures res { res.new ≡ (run_call state.old trace.now quota memory.old [] res.old).result }
 {
-    let mut answers = [0u8; 1];
-    sildrokk_replay(state, trace, quota, memory, &mut answers, res)
+    sildrokk_replay(state, trace, quota, memory, &mut [], res)
+}
+
+// A refused selection drives no byte.
+fn refuse_select(res: &mut [u8], refusal: Refusal) -> u8
+    ensures number { result ≡ refusal_number refusal }
+    ensures res { res.new ≡ select_result 0 0 res.old }
+{
+    call_ends::result::write_select(res, 0, 0);
+    refusal.number()
 }
 
 // One selection of an SPI part as bytes; WP# is low if wp is 0 and high if not. A result of 32 bytes gets the index of the first driven
@@ -107,15 +126,16 @@ pub extern "C" fn sildrokk_select(
     ensures memory { memory.new ≡ (select_call state.old (not (eqb wp 0)) input.now output.old memory.old res.old).memory }
     ensures res { res.new ≡ (select_call state.old (not (eqb wp 0)) input.now output.old memory.old res.old).result }
 {
-    let number = call_ends::open::number(state, res.len(), memory.len());
-    if number != 0 {
-        call_ends::result::write_select(res, 0, 0);
-        return number;
+    if let Err(refusal) = call_ends::open::check(state, res.len(), memory.len()) {
+        return refuse_select(res, refusal);
     }
     let model = image::taken::state_of(state);
-    let selected = selects::select::select_on_part(model, wp != 0, input, output, memory);
-    let next = selected.model;
-    image::taken::put_image(state, next);
-    call_ends::result::write_select(res, selected.first as u64, selected.count as u64);
-    selected.number
+    match selects::select::select_on_part(model, wp != 0, input, output, memory) {
+        Ok(selected) => {
+            image::taken::put_image(state, selected.model);
+            call_ends::result::write_select(res, selected.first, selected.count);
+            0
+        }
+        Err(refusal) => refuse_select(res, refusal),
+    }
 }

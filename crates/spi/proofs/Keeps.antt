@@ -13,9 +13,9 @@ use Rattle.parts.specs.declared.part.Part.{Part}
 use Rattle.parts.specs.declared.status.Status.{Status}
 use Rattle.parts.specs.Status.{protected_start}
 use Rattle.parts.specs.Table.{Fit}
-use Rattle.serial.specs.declared.write.Write.TheVariants.{Nothing, Byte}
+use Rattle.std.specs.Prelude.{None}
 use Rattle.serial.specs.Bits.{shifted}
-use Rattle.serial.specs.Write.{applied, Within}
+use Rattle.serial.specs.Write.{applied, Within, write_at}
 use Rattle.serial.proofs.AddressLaws.{next_within}
 use Rattle.serial.proofs.BitLaws.{shifted_within}
 use Rattle.serial.proofs.WriteLaws.{length_applied}
@@ -126,21 +126,21 @@ module _ (p : Part) (fit : Fit p) where
   pub permitted_within : (st : Status) (a v : ℕ) → a < p.size → Within p.size (permitted p st a v)
   permitted_within st a v h = by (st.wel && ltb a (protected_start st p))
     where
-      by : (t : Bool) → Within p.size (cond t (Byte a v) Nothing)
+      by : (t : Bool) → Within p.size (cond t (write_at a v) None)
       by true = h
       by false = tt
 
   finished_within : (st : Status) (a v : ℕ) → a < p.size → Within p.size (finished_write p st a v)
   finished_within st a v h = by p.late
     where
-      by : (t : Bool) → Within p.size (cond t Nothing (permitted p st a v))
+      by : (t : Bool) → Within p.size (cond t None (permitted p st a v))
       by true = tt
       by false = permitted_within st a v h
 
   data_within : (st : Status) (a n v : ℕ) (b : Bool) → a < p.size → Within p.size (data_write p st a n v b)
   data_within st a n v b h = by (ltb n 7)
     where
-      by : (t : Bool) → Within p.size (cond t Nothing (finished_write p st a (shifted v b)))
+      by : (t : Bool) → Within p.size (cond t None (finished_write p st a (shifted v b)))
       by true = tt
       by false = finished_within st a (shifted v b) h
 

@@ -1,12 +1,11 @@
 -- One sample of an SPI part under power: next status register and state, answer, and what is written.
-use Rattle.std.specs.Prelude.{ℕ, ◌≡◌, Bool, true, false, List, length}
+use Rattle.std.specs.Prelude.{ℕ, ◌≡◌, Bool, true, false, List, length, None, Option}
 use Rattle.parts.specs.declared.answer.Answer.{Answer}
 use Rattle.parts.specs.declared.answer.Answer.TheVariants.{HighZ}
 use Rattle.parts.specs.declared.part.Part.{Part}
 use Rattle.parts.specs.declared.status.Status.{Status}
 use Rattle.parts.specs.Table.{Fit}
 use Rattle.serial.specs.declared.write.Write.{Write}
-use Rattle.serial.specs.declared.write.Write.TheVariants.{Nothing}
 use Rattle.selection.specs.declared.levels.Levels.{Levels}
 use Rattle.selection.specs.declared.edge.Edge.{Edge}
 use Rattle.selection.specs.declared.edge.Edge.TheVariants.{Select, Deselect, Rise, Fall, Quiet}
@@ -31,20 +30,20 @@ pub record Outcome : Type 0 where
   pub status : Status
   pub spi : Spi
   pub answer : Answer
-  pub write : Write
+  pub write : Option Write
 
 -- a step to a status register, the levels seen, whether the part sleeps, what is shown, a phase, and what is written
-abbrev pub step_to : Status → Levels → Bool → Answer → Phase → Write → Outcome
+abbrev pub step_to : Status → Levels → Bool → Answer → Phase → Option Write → Outcome
 step_to st l z shown ph w =
     record { status = st; spi = record { last = l; asleep = z; shown = shown; phase = ph }; answer = answer_at l shown; write = w }
 
 -- what an edge does, with the levels l and a memory that the part may read
 abbrev pub step_on : Edge → Part → Status → Spi → Levels → List ℕ → Outcome
-step_on Select p st s l m = step_to st l s.asleep HighZ (selected s.asleep) Nothing
+step_on Select p st s l m = step_to st l s.asleep HighZ (selected s.asleep) None
 step_on Deselect p st s l m = step_to (status_after st l.wp s.phase) l (asleep_after s.asleep s.phase) HighZ Rest (end_write p st s.phase)
 step_on (Rise b) p st s l m = step_to st l s.asleep s.shown (after_rise p s.phase b) (rise_write p st s.phase b)
-step_on Fall p st s l m = step_to st l s.asleep (after_fall p st m s.phase s.shown) s.phase Nothing
-step_on Quiet p st s l m = step_to st l s.asleep s.shown s.phase Nothing
+step_on Fall p st s l m = step_to st l s.asleep (after_fall p st m s.phase s.shown) s.phase None
+step_on Quiet p st s l m = step_to st l s.asleep s.shown s.phase None
 
 unfoldable pub step_of : Part → Status → Spi → Levels → List ℕ → Outcome
 step_of p st s l m = step_on (edge_of s.last l) p st s l m

@@ -7,7 +7,7 @@ use selection::levels::Levels;
 use selection::phase::{Field, Phase};
 
 // What it keeps between samples, beside the status register.
-#[derive(Clone, Copy)]
+#[derive(Clone, Copy, Debug, PartialEq, Eq)]
 pub struct Spi {
     // the levels of the last sample
     pub last: Levels,

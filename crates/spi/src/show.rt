@@ -18,14 +18,10 @@ fn shown_bit(part: Part, status: Status, memory: &[u8], source: Source, bit: u8)
     match source {
         Source::Memory { address } => level(memory[address as usize], bit),
         Source::Register => level(status.byte(), bit),
-        Source::Identity { index } => {
-            if index < 3 {
-                let identity = part.identity;
-                level(identity[index as usize], bit)
-            } else {
-                Answer::HighZ
-            }
-        }
+        Source::Identity { index } => part
+            .identity
+            .get(usize::from(index))
+            .map_or(Answer::HighZ, |byte| level(*byte, bit)),
     }
 }
 
@@ -34,7 +30,7 @@ fn level(byte: u8, bit: u8) -> Answer
     requires { bit < 8 }
     ensures { result ≡ level_of (bit_at byte bit) }
 {
-    parts::answer::level_of(serial::bits::bit_at(byte, bit))
+    Answer::from(serial::bits::bit_at(byte, bit))
 }
 
 // What is shown after a counted fall, where shown was before.
@@ -43,19 +39,8 @@ pub fn after_fall(part: Part, status: Status, memory: &[u8], phase: Phase, shown
     ensures { result ≡ after_fall part status memory.now phase shown }
 {
     match phase {
-        Phase::Rest => shown,
-        Phase::Ignoring => shown,
-        Phase::Taking {
-            field: _,
-            count: _,
-            value: _,
-        } => shown,
         Phase::Showing { source, bit } => shown_bit(part, status, memory, source, bit),
-        Phase::Waiting { action: _ } => shown,
-        Phase::Pending {
-            address: _,
-            byte: _,
-        } => shown,
+        _ => shown,
     }
 }
 
@@ -63,9 +48,9 @@ pub fn after_fall(part: Part, status: Status, memory: &[u8], phase: Phase, shown
 pub fn answer_at(now: Levels, shown: Answer) -> Answer
     ensures { result ≡ answer_at now shown }
 {
-    if now.cs {
-        Answer::HighZ
+    if now.hold && !now.cs {
+        shown
     } else {
-        if now.hold { shown } else { Answer::HighZ }
+        Answer::HighZ
     }
 }

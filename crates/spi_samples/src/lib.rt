@@ -1,6 +1,7 @@
-// Consecutive samples of an SPI part, with expected answers that hold among them: one loop, which keeps the state of the bus in
-// locals.
+// Consecutive samples of an SPI part, with expected answers that hold among them: what the loop keeps of the state of the bus, and what a
+// sample does to it.
 #![tactic(auto)]
 
+pub mod bus;
 pub mod consecutive;
 pub mod turn;

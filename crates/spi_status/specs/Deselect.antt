@@ -45,25 +45,6 @@ status_after st wp (Showing s k) = st
 status_after st wp (Waiting a) = action_status st wp a
 status_after st wp (Pending v a) = with_wel st false
 
--- whether a WRITE had a whole data byte. This only says how the code asks: as CS# rises it clears WEL then, and where nothing waited for
--- that leaves the register else (`data_ends` in `proofs/SleepLaws.antt`)
-abbrev pub had_field : Field → Bool
-had_field Opcode = false
-had_field ReadAddress = false
-had_field FastAddress = false
-had_field WriteAddress = false
-had_field (Dummy a) = false
-had_field (Data a whole) = whole
-had_field StatusByte = false
-
-abbrev pub had_data : Phase → Bool
-had_data Rest = false
-had_data Ignoring = false
-had_data (Taking f n v) = had_field f
-had_data (Showing s k) = false
-had_data (Waiting a) = false
-had_data (Pending v a) = true
-
 abbrev pub is_sleep : Action → Bool
 is_sleep SetLatch = false
 is_sleep ClearLatch = false

@@ -1,7 +1,7 @@
 -- What a whole event says of the bytes that it is read from, that it stays the same with bytes after it, and that a refusal points no
 -- further than the bytes go. Assumes nothing.
 use Prim.Native.Nat.{ℕ, ◌+◌, ◌<◌, ◌≤◌}
-use mathlib.Core.Path.{◌≡◌, refl}
+use mathlib.Core.Path.{◌≡◌, refl, ap}
 use mathlib.Core.Bool.{Bool, true, false, cond}
 use mathlib.Core.List.{List, ◌++◌}
 use native.Mathlib.Omega.{arith}
@@ -12,10 +12,8 @@ use Rattle.parts.specs.declared.part.Part.{Part}
 use Rattle.parts.specs.declared.refusal.Refusal.TheVariants.{UnknownKind, Truncated, SampleRange, StartRange, ExpectedRange}
 use Rattle.trace.specs.declared.event.Event.{Event}
 use Rattle.trace.specs.declared.event.Event.TheVariants.{SpiPowerOn, I2cPowerOn, PowerOff, Sample, Expected}
-use Rattle.trace.specs.declared.read.Read.{Read}
-use Rattle.trace.specs.declared.read.Read.TheVariants.{Whole, Refused}
 use Rattle.trace.specs.Event.{sample_limit, sample_in, start_in, expected_in}
-use Rattle.trace.specs.Read.{known_kind, event_length, start_address, parsed_event, fields_read, read_of, place_of}
+use Rattle.trace.specs.Read.{known_kind, event_length, start_address, parsed_event, fields_read, read_of, place_of, Read, Whole, Refused}
 
 -- the six tests of a reading pass, and what is then read
 pub record Passed (p : Part) (t : List ℕ) (e : Event) (n : ℕ) : Type 0 where
@@ -37,11 +35,20 @@ chain true b c r e n h = let z : ◌≡◌ {A = ℕ} 0 1 = cc in absurd (omega a
 chain false false c r e n h = let z : ◌≡◌ {A = ℕ} 0 1 = cc in absurd (omega arith)
 chain false true true r e n h = let z : ◌≡◌ {A = ℕ} 0 1 = cc in absurd (omega arith)
 
+-- what was read whole, with what stands for it where nothing was
+abbrev event_in : Event → Read → Event
+event_in d (Whole e n) = e
+event_in d (Refused r place) = d
+
+abbrev taken_in : ℕ → Read → ℕ
+taken_in d (Whole e n) = n
+taken_in d (Refused r place) = d
+
 -- and those of the fields
 fields : (a b c : Bool) (f e : Event) (m n : ℕ)
     → cond a (cond b (cond c (Whole f m) (Refused ExpectedRange 1)) (Refused StartRange 2)) (Refused SampleRange 1) ≡ Whole e n
     → (a ≡ true) × ((b ≡ true) × ((c ≡ true) × ((f ≡ e) × (m ≡ n))))
-fields true true true f e m n h = (refl, (refl, (refl, (cc, cc))))
+fields true true true f e m n h = (refl, (refl, (refl, (ap (event_in f) h, ap (taken_in m) h))))
 fields true true false f e m n h = let z : ◌≡◌ {A = ℕ} 0 1 = cc in absurd (omega arith)
 fields true false c f e m n h = let z : ◌≡◌ {A = ℕ} 0 1 = cc in absurd (omega arith)
 fields false b c f e m n h = let z : ◌≡◌ {A = ℕ} 0 1 = cc in absurd (omega arith)

@@ -10,13 +10,12 @@ use native.Mathlib.Omega.{arith}
 use lib.Dec.{eqb, ltb}
 use lib.ListN.{length, drop, get_or, length-drop}
 use lib.Seq.{get_or-drop}
-use borrow.Author.Tests.{eqb-true, ltb-false, lt-ltb, le-ltb, ne_eqb}
+use borrow.Author.Tests.{eqb-true, ltb-false, lt-ltb, le-ltb}
 use Rattle.parts.specs.declared.part.Part.{Part}
 use Rattle.trace.specs.declared.event.Event.{Event}
 use Rattle.trace.specs.declared.event.Event.TheVariants.{SpiPowerOn, I2cPowerOn, PowerOff, Sample, Expected}
-use Rattle.trace.specs.declared.read.Read.TheVariants.{Whole}
 use Rattle.trace.specs.Event.{sample_limit, sample_in}
-use Rattle.trace.specs.Read.{start_address, read_of}
+use Rattle.trace.specs.Read.{start_address, read_of, Whole}
 use Rattle.trace.specs.Sample.{sample_first, expected_first, stays_first, first_event, NoSample}
 use Rattle.trace.proofs.ReadLaws.{passed, reads_whole}
 
@@ -65,15 +64,6 @@ module _ (t : List ℕ) (o : ℕ) where
   module _ (limit a : ℕ) (l : o + 2 ≤ length t) where
     long : 2 ≤ length (drop o t)
     long = rw length-drop (omega arith)
-
-    pub stays_4 : get_or t o 0 ≡ 4 → stays_first limit a (drop o t) ≡ ltb (get_or t (o + 1) 0) limit
-    stays_4 k = rw (le-ltb (length (drop o t)) 2 long, kind_at, value_at, k) (either (ltb (get_or t (o + 1) 0) limit))
-
-    pub stays_5 : get_or t o 0 ≡ 5 → stays_first limit a (drop o t) ≡ eqb (get_or t (o + 1) 0) a
-    stays_5 k = rw (le-ltb (length (drop o t)) 2 long, kind_at, value_at, k)
-
-    pub stays_other : (get_or t o 0 ≡ 4 → ⊥) → (get_or t o 0 ≡ 5 → ⊥) → stays_first limit a (drop o t) ≡ false
-    stays_other n m = rw (le-ltb (length (drop o t)) 2 long, kind_at, ne_eqb (get_or t o 0) 4 n, ne_eqb (get_or t o 0) 5 m)
 
 -- either of the two
 module _ (limit a : ℕ) (t : List ℕ) where

@@ -10,9 +10,8 @@ use Rattle.parts.specs.declared.part.Part.{Part}
 use Rattle.parts.specs.Table.{is_spi}
 use Rattle.trace.specs.declared.event.Event.{Event}
 use Rattle.trace.specs.declared.event.Event.TheVariants.{SpiPowerOn, I2cPowerOn, PowerOff, Sample, Expected}
-use Rattle.trace.specs.declared.read.Read.TheVariants.{Whole}
 use Rattle.trace.specs.Event.{start_in}
-use Rattle.trace.specs.Read.{start_address, read_of}
+use Rattle.trace.specs.Read.{start_address, read_of, Whole}
 use Rattle.trace.proofs.ReadLaws.{passed}
 
 abbrev pub Suits : Part → Event → Type 0

@@ -3,8 +3,17 @@ use Rattle.std.specs.Prelude.{ℕ, Bool, true, ltb}
 use Rattle.parts.specs.declared.part.Bus.{Bus}
 use Rattle.parts.specs.declared.part.Bus.TheVariants.{Spi, I2c}
 use Rattle.parts.specs.declared.part.Part.{Part}
+use Rattle.trace.specs.declared.event.Kind.{Kind}
 use Rattle.trace.specs.declared.event.Event.{Event}
 use Rattle.trace.specs.declared.event.Event.TheVariants.{SpiPowerOn, I2cPowerOn, PowerOff, Sample, Expected}
+
+-- the kind byte of each event
+abbrev pub kind_number : Kind → ℕ
+kind_number Kind.SpiPowerOn = 1
+kind_number Kind.I2cPowerOn = 2
+kind_number Kind.PowerOff = 3
+kind_number Kind.Sample = 4
+kind_number Kind.Expected = 5
 
 -- a sample lies below this: it has five pins on SPI and three levels on I2C
 abbrev pub sample_limit : Bus → ℕ

@@ -1,15 +1,24 @@
 -- The event at the front of some bytes, or why there is none. The first byte is its kind, which says how many bytes it has in all;
 -- those after it are not looked at (document 01, Models and events).
-use Rattle.std.specs.Prelude.{ℕ, ◌+◌, ◌*◌, Bool, true, false, cond, not, List, eqb, ltb, length, get_or}
+use Rattle.std.specs.Prelude.{ℕ, ◌+◌, ◌*◌, Bool, true, false, cond, not, List, eqb, ltb, length, get_or, Result, Ok, Err}
 use Rattle.parts.specs.declared.part.Bus.{Bus}
 use Rattle.parts.specs.declared.part.Part.{Part}
+use Rattle.parts.specs.declared.refusal.Refusal.{Refusal}
 use Rattle.parts.specs.declared.refusal.Refusal.TheVariants.{UnknownKind, Truncated, SampleRange, StartRange, ExpectedRange}
 use Rattle.parts.specs.Table.{is_spi}
 use Rattle.trace.specs.declared.event.Event.{Event}
 use Rattle.trace.specs.declared.event.Event.TheVariants.{SpiPowerOn, I2cPowerOn, PowerOff, Sample, Expected}
-use Rattle.trace.specs.declared.read.Read.{Read}
-use Rattle.trace.specs.declared.read.Read.TheVariants.{Whole, Refused}
 use Rattle.trace.specs.Event.{sample_in, start_in, expected_in}
+
+-- an event and how many bytes it takes, or why there is none and how far after the kind's byte the fault lies
+abbrev pub Read : Type 0
+Read = Result (Event × ℕ) (Refusal × ℕ)
+
+pattern abbrev pub Whole : Event → ℕ → Read
+Whole e n = Ok (e, n)
+
+pattern abbrev pub Refused : Refusal → ℕ → Read
+Refused r place = Err (r, place)
 
 -- power off (03), sample (04) and expected answer (05) are known on both buses; power on is 01 on SPI alone and 02 on I2C alone
 abbrev pub known_kind : Bus → ℕ → Bool

@@ -4,17 +4,23 @@ ghost use Rattle.trace.specs.Event.{sample_limit};
 
 use parts::part::Bus;
 
-#[derive(Clone, Copy)]
+// The kind byte of each event.
+#[derive(Clone, Copy, Debug, PartialEq, Eq)]
+pub enum Kind {
+    SpiPowerOn = 1,
+    I2cPowerOn = 2,
+    PowerOff = 3,
+    Sample = 4,
+    Expected = 5,
+}
+
+#[derive(Clone, Copy, Debug, PartialEq, Eq)]
 pub enum Event {
-    // kind 01
     SpiPowerOn { sample: u8 },
-    // kind 02, with the start address
+    // with the start address
     I2cPowerOn { sample: u8, start: u32 },
-    // kind 03
     PowerOff,
-    // kind 04
     Sample { sample: u8 },
-    // kind 05
     Expected { answer: u8 },
 }
 

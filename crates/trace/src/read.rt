@@ -1,42 +1,41 @@
 // The event at the front of some bytes, or why there is none.
-ghost use Rattle.std.specs.Prelude.{◌≡◌, ◌≤◌, cond, ltb, length};
-ghost use Rattle.trace.specs.Event.{sample_limit};
+ghost use Rattle.std.specs.Prelude.{◌≡◌, ◌≤◌, false, true, cond, ltb, length, MatchOption, Ok, Err};
+ghost use Rattle.parts.specs.declared.refusal.Refusal.TheVariants.{SampleRange, StartRange};
+ghost use Rattle.trace.specs.Event.{kind_number, sample_limit};
 ghost use Rattle.trace.specs.Read.{known_kind, event_length, start_address, parsed_event, fields_read, read_of};
 
-use crate::event::Event;
+use crate::event::{Event, Kind};
 use parts::part::{Bus, Part};
 use parts::refusal::Refusal;
 
-#[derive(Clone, Copy)]
-pub enum Read {
-    // a whole event and how many bytes it takes
-    Whole { event: Event, taken: usize },
-    // why not, and how far after the kind byte the fault lies
-    Refused { refusal: Refusal, place: usize },
-}
+// Why there is no event, and how far after the kind byte the fault lies.
+pub type Fault = (Refusal, usize);
 
-// Whether an event of this kind can happen on the bus.
-fn known_kind(bus: Bus, kind: u8) -> bool
-    ensures { result ≡ known_kind bus kind }
+// A whole event and how many bytes it takes, or the fault.
+pub type Read = Result<(Event, usize), Fault>;
+
+// The kind of a byte, if it is one that can happen on the bus.
+fn kind_on(bus: Bus, byte: u8) -> Option<Kind>
+    ensures { MatchOption result (known_kind bus byte ≡ false) (λ kind. (known_kind bus byte ≡ true) × (kind_number kind ≡ byte)) }
 {
-    match kind {
-        1 => bus.is_spi(),
-        2 => !bus.is_spi(),
-        3 => true,
-        4 => true,
-        5 => true,
-        _ => false,
+    match byte {
+        1 if bus == Bus::Spi => Some(Kind::SpiPowerOn),
+        2 if bus == Bus::I2c => Some(Kind::I2cPowerOn),
+        3 => Some(Kind::PowerOff),
+        4 => Some(Kind::Sample),
+        5 => Some(Kind::Expected),
+        _ => None,
     }
 }
 
 // How many bytes an event takes, its kind included.
-fn event_length(kind: u8) -> usize
-    ensures { result ≡ event_length kind }
+fn event_length(kind: Kind) -> usize
+    ensures { result ≡ event_length (kind_number kind) }
 {
     match kind {
-        2 => 5,
-        3 => 1,
-        _ => 2,
+        Kind::I2cPowerOn => 5,
+        Kind::PowerOff => 1,
+        Kind::SpiPowerOn | Kind::Sample | Kind::Expected => 2,
     }
 }
 
@@ -44,45 +43,45 @@ fn event_length(kind: u8) -> usize
 fn start_address(high: u8, middle: u8, low: u8) -> u32
     ensures { result ≡ start_address high middle low }
 {
-    65536 * high as u32 + 256 * middle as u32 + low as u32
+    u32::from_be_bytes([0, high, middle, low])
 }
 
-// The event of a known kind whose bytes are all there.
-fn parsed_event(kind: u8, bytes: &[u8]) -> Event
-    requires { event_length kind ≤ length bytes.now }
-    ensures { result ≡ parsed_event kind bytes.now }
+// The event of this kind, whose bytes are all there.
+fn parsed_event(kind: Kind, bytes: &[u8]) -> Event
+    requires { event_length (kind_number kind) ≤ length bytes.now }
+    ensures { result ≡ parsed_event (kind_number kind) bytes.now }
 {
     match kind {
-        1 => Event::SpiPowerOn { sample: bytes[1] },
-        2 => Event::I2cPowerOn {
+        Kind::SpiPowerOn => Event::SpiPowerOn { sample: bytes[1] },
+        Kind::I2cPowerOn => Event::I2cPowerOn {
             sample: bytes[1],
             start: start_address(bytes[2], bytes[3], bytes[4]),
         },
-        3 => Event::PowerOff,
-        4 => Event::Sample { sample: bytes[1] },
-        _ => Event::Expected { answer: bytes[1] },
+        Kind::PowerOff => Event::PowerOff,
+        Kind::Sample => Event::Sample { sample: bytes[1] },
+        Kind::Expected => Event::Expected { answer: bytes[1] },
     }
 }
 
-// What was read of the other fields stands if the sample is in range; it comes right after the kind.
-fn read_sample(bus: Bus, sample: u8, others: Read) -> Read
-    ensures { result ≡ cond (ltb sample (sample_limit bus)) others (Read.Refused Refusal.SampleRange 1) }
+// Number 6, at the byte right after the kind.
+fn check_sample(bus: Bus, sample: u8) -> Result<(), Fault>
+    ensures { result ≡ cond (ltb sample (sample_limit bus)) (Ok tt) (Err (SampleRange, 1)) }
 {
     if sample < crate::event::sample_limit(bus) {
-        others
+        Ok(())
     } else {
-        refused(Refusal::SampleRange, 1)
+        Err((Refusal::SampleRange, 1))
     }
 }
 
-// The same of a start address, which comes after the sample.
-fn read_start(part: Part, start: u32, others: Read) -> Read
-    ensures { result ≡ cond (ltb start part.size) others (Read.Refused Refusal.StartRange 2) }
+// Number 10, after the sample.
+fn check_start(part: Part, start: u32) -> Result<(), Fault>
+    ensures { result ≡ cond (ltb start part.size) (Ok tt) (Err (StartRange, 2)) }
 {
     if start < part.size {
-        others
+        Ok(())
     } else {
-        refused(Refusal::StartRange, 2)
+        Err((Refusal::StartRange, 2))
     }
 }
 
@@ -91,48 +90,33 @@ fn read_start(part: Part, start: u32, others: Read) -> Read
 fn read_fields(part: Part, event: Event, taken: usize) -> Read
     ensures { result ≡ fields_read part event taken }
 {
-    let bus = part.bus;
-    let whole = Read::Whole { event, taken };
     match event {
-        Event::SpiPowerOn { sample } => read_sample(bus, sample, whole),
+        Event::SpiPowerOn { sample } | Event::Sample { sample } => check_sample(part.bus, sample)?,
         Event::I2cPowerOn { sample, start } => {
-            let others = read_start(part, start, whole);
-            read_sample(bus, sample, others)
+            check_sample(part.bus, sample)?;
+            check_start(part, start)?;
         }
-        Event::PowerOff => whole,
-        Event::Sample { sample } => read_sample(bus, sample, whole),
+        Event::PowerOff => {}
         Event::Expected { answer } => {
-            if answer < 3 {
-                whole
-            } else {
-                refused(Refusal::ExpectedRange, 1)
+            if answer >= 3 {
+                return Err((Refusal::ExpectedRange, 1));
             }
         }
     }
+    Ok((event, taken))
 }
 
 // Refused with 4 or 5, tested in that order, at the kind byte; else by the fields. Bytes after the event are ignored.
+#[tactic(auto, unfolding(crate::specs::Read::read_of))]
 pub fn read_event(part: Part, bytes: &[u8]) -> Read
     ensures { result ≡ read_of part bytes.now }
 {
-    if bytes.len() == 0 {
-        return refused(Refusal::Truncated, 0);
-    }
-    let kind = bytes[0];
-    let bus = part.bus;
-    if !known_kind(bus, kind) {
-        return refused(Refusal::UnknownKind, 0);
-    }
+    let byte = *bytes.first().ok_or((Refusal::Truncated, 0))?;
+    let kind = kind_on(part.bus, byte).ok_or((Refusal::UnknownKind, 0))?;
     let taken = event_length(kind);
     if bytes.len() < taken {
-        return refused(Refusal::Truncated, 0);
+        return Err((Refusal::Truncated, 0));
     }
     let event = parsed_event(kind, bytes);
     read_fields(part, event, taken)
-}
-
-fn refused(refusal: Refusal, place: usize) -> Read
-    ensures { result ≡ Read.Refused refusal place }
-{
-    Read::Refused { refusal, place }
 }

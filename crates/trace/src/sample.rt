@@ -2,6 +2,8 @@
 ghost use Rattle.std.specs.Prelude.{◌≡◌, ◌≤◌, ◌+◌, length, drop};
 ghost use Rattle.trace.specs.Sample.{stays_first};
 
+use crate::event::Kind;
+
 // Whether at offset there is a sample below limit, or this expected answer: an event that is accepted and leaves power on, where the
 // part answers `answer` at present. There are two bytes at least.
 pub fn stays_at(trace: &[u8], offset: usize, limit: u8, answer: u8) -> bool
@@ -10,8 +12,13 @@ pub fn stays_at(trace: &[u8], offset: usize, limit: u8, answer: u8) -> bool
 {
     let kind = trace[offset];
     let value = trace[offset + 1];
-    if kind == 4 {
+    // an if for each kind: as one expression it was worked out whole at each event
+    if kind == Kind::Sample as u8 {
         return value < limit;
     }
-    if kind == 5 { value == answer } else { false }
+    if kind == Kind::Expected as u8 {
+        value == answer
+    } else {
+        false
+    }
 }

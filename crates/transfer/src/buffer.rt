@@ -7,7 +7,7 @@ ghost use Rattle.transfer.specs.Ranges.{PhaseIn};
 use crate::phase::{Field, Phase};
 use parts::part::Part;
 
-#[derive(Clone, Copy)]
+#[derive(Clone, Copy, Debug, PartialEq, Eq)]
 pub struct AddressBuffer {
     pub address: u32,
     pub used: bool,
@@ -18,8 +18,7 @@ pub fn address_of_bytes(part: Part, a16: bool, high: u8, low: u8) -> u32
     requires { Fit part }
     ensures { result ≡ address_of_bytes part a16 high low }
 {
-    let top = parts::status::bit_of(a16) as u32;
-    (65536 * top + 256 * high as u32 + low as u32) % part.size
+    u32::from_be_bytes([0, u8::from(a16), high, low]) % part.size
 }
 
 // An address with A16 for its bit 16, where the word carries A16.
@@ -28,8 +27,7 @@ fn with_a16(part: Part, a16: bool, address: u32) -> u32
     ensures { (result ≡ with_a16 part a16 address) × (result < part.size) }
 {
     if part.a16 {
-        let top = parts::status::bit_of(a16) as u32;
-        65536 * top + address % 65536
+        65536 * u32::from(a16) + address % 65536
     } else {
         address
     }
@@ -54,8 +52,7 @@ fn field_buffer(part: Part, buffer: AddressBuffer, field: Field, value: u8) -> A
     ensures { result ≡ field_buffer part buffer field value }
 {
     match field {
-        Field::Word => buffer,
-        Field::HighByte { a16: _ } => buffer,
+        Field::Word | Field::HighByte { .. } => buffer,
         Field::LowByte { a16, high } => AddressBuffer {
             address: address_of_bytes(part, a16, high, value),
             used: false,
@@ -73,28 +70,15 @@ pub fn buffer_after(part: Part, buffer: AddressBuffer, phase: Phase) -> AddressB
     ensures { result ≡ buffer_after part buffer phase }
 {
     match phase {
-        Phase::Rest => buffer,
-        Phase::Ignoring => buffer,
         Phase::Taking {
             field,
             count,
             value,
-        } => {
-            if count < 8 {
-                buffer
-            } else {
-                field_buffer(part, buffer, field, value as u8)
-            }
-        }
-        Phase::Sending { address, count } => {
-            if count < 8 {
-                buffer
-            } else {
-                AddressBuffer {
-                    address,
-                    used: true,
-                }
-            }
-        }
+        } if count >= 8 => field_buffer(part, buffer, field, value as u8),
+        Phase::Sending { address, count } if count >= 8 => AddressBuffer {
+            address,
+            used: true,
+        },
+        _ => buffer,
     }
 }

@@ -1,10 +1,10 @@
-// What happens between two samples: START, STOP or an edge of SCL.
+// What happens between two samples: START, STOP or an edge of SCL. The `edge_of` of `selection` is another rule: CS# and HOLD# decide there.
 ghost use Rattle.std.specs.Prelude.{◌≡◌};
-ghost use Rattle.transfer.specs.Edge.{line_of, edge_on, edge_of};
+ghost use Rattle.transfer.specs.Edge.{line_of, edge_of};
 
 use crate::levels::Levels;
 
-#[derive(Clone, Copy)]
+#[derive(Clone, Copy, Debug, PartialEq, Eq)]
 pub enum Edge {
     Start,
     Stop,
@@ -19,35 +19,23 @@ pub enum Edge {
 pub fn line_of(sda: bool, pulling: bool) -> bool
     ensures { result ≡ line_of sda pulling }
 {
-    if pulling { false } else { sda }
+    sda && !pulling
 }
 
-// SCL before and now, the line before and now.
-fn edge_on(was: bool, scl: bool, before: bool, line: bool) -> Edge
-    ensures { result ≡ edge_on was scl before line }
-{
-    if scl {
-        if was {
-            if before {
-                if line { Edge::Quiet } else { Edge::Start }
-            } else {
-                if line { Edge::Stop } else { Edge::Quiet }
-            }
-        } else {
-            Edge::Rise { line }
-        }
-    } else {
-        if was { Edge::Fall } else { Edge::Quiet }
-    }
-}
-
+// With SCL 1 in both samples the line tells; else SCL does.
 pub fn edge_of(pulling: bool, before: Levels, after: Levels) -> Edge
     ensures { result ≡ edge_of pulling before after }
 {
-    edge_on(
-        before.scl,
-        after.scl,
-        line_of(before.sda, pulling),
-        line_of(after.sda, pulling),
-    )
+    let was = line_of(before.sda, pulling);
+    let line = line_of(after.sda, pulling);
+    match (before.scl, after.scl) {
+        (true, true) => match (was, line) {
+            (true, false) => Edge::Start,
+            (false, true) => Edge::Stop,
+            _ => Edge::Quiet,
+        },
+        (true, false) => Edge::Fall,
+        (false, true) => Edge::Rise { line },
+        (false, false) => Edge::Quiet,
+    }
 }

@@ -1,4 +1,4 @@
-// The warning flag of a sample.
+// The warning flag of a sample. The `flag_of` of `selection` asks CS# in both samples, and no phase.
 ghost use Rattle.std.specs.Prelude.{◌≡◌};
 ghost use Rattle.transfer.specs.Flag.{between, flag_of};
 
@@ -9,28 +9,12 @@ use crate::phase::Phase;
 fn between(phase: Phase) -> bool
     ensures { result ≡ between phase }
 {
-    match phase {
-        Phase::Rest => false,
-        Phase::Ignoring => true,
-        Phase::Taking {
-            field: _,
-            count: _,
-            value: _,
-        } => true,
-        Phase::Sending {
-            address: _,
-            count: _,
-        } => true,
-    }
+    !matches!(phase, Phase::Rest)
 }
 
 // WP has moved since the sample before, and the part was between START and STOP.
 pub fn flag_of(phase: Phase, before: Levels, now: Levels) -> bool
     ensures { result ≡ flag_of phase before now }
 {
-    if serial::level::differ(before.wp, now.wp) {
-        between(phase)
-    } else {
-        false
-    }
+    before.wp != now.wp && between(phase)
 }

@@ -1,7 +1,7 @@
 // The phases of an I2C part, which say what it waits for, each with the numbers that it needs.
 
 // The byte that comes in.
-#[derive(Clone, Copy)]
+#[derive(Clone, Copy, Debug, PartialEq, Eq)]
 pub enum Field {
     Word,
     // the first address byte, after a write word with this A16
@@ -11,7 +11,7 @@ pub enum Field {
     Data { address: u32 },
 }
 
-#[derive(Clone, Copy)]
+#[derive(Clone, Copy, Debug, PartialEq, Eq)]
 pub enum Phase {
     // after STOP or power on: waits for START
     Rest,

@@ -1,4 +1,5 @@
-// What a rise of SCL makes of the phase.
+// What a rise of SCL makes of the phase. The names are those of `selection`, whose bytes have no ninth rise and whose phases have other cases:
+// one function of both would only choose between two.
 ghost use Rattle.std.specs.Prelude.{◌≡◌, ◌<◌};
 ghost use Rattle.parts.specs.Table.{Fit};
 ghost use Rattle.transfer.specs.Phase.{phase_after_word, phase_after_byte, after_taken, after_sent, after_rise};
@@ -90,14 +91,12 @@ fn send_bit(part: Part, address: u32, count: u8, line: bool) -> Phase
             address,
             count: count + 1,
         }
+    } else if line {
+        Phase::Ignoring
     } else {
-        if line {
-            Phase::Ignoring
-        } else {
-            Phase::Sending {
-                address: serial::address::next_address(part.size, address),
-                count: 0,
-            }
+        Phase::Sending {
+            address: serial::address::next_address(part.size, address),
+            count: 0,
         }
     }
 }
@@ -108,8 +107,7 @@ pub fn after_rise(part: Part, pins: u8, buffer: AddressBuffer, phase: Phase, lin
     ensures { result ≡ after_rise part pins buffer phase line }
 {
     match phase {
-        Phase::Rest => phase,
-        Phase::Ignoring => phase,
+        Phase::Rest | Phase::Ignoring => phase,
         Phase::Taking {
             field,
             count,

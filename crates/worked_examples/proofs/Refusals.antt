@@ -7,7 +7,7 @@ use Rattle.trace.specs.Read.{read_of}
 use Rattle.chip.specs.Check.{check_of}
 use Rattle.chip.specs.Model.{unpowered}
 use Rattle.parts.specs.Status.{cleared}
-use Rattle.model.specs.declared.make.Made.{Made}
+use Rattle.model.specs.Made.{Made}
 use Rattle.model.specs.Make.{make_of}
 use Rattle.worked_examples.specs.Cases.{Every, made_of}
 use Rattle.worked_examples.specs.Refusals.{Refusal, answer_to, EventRefused, RunRefused, refusals, out_of_range, other_kinds, empty_events, Making, MakingRefused, refused_makings, Stopped, RunStopped, stopped_runs}

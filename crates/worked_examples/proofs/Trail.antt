@@ -13,15 +13,13 @@ use Rattle.parts.specs.declared.part.Part.{Part}
 use Rattle.parts.specs.declared.status.Status.{Status}
 use Rattle.parts.specs.Numbers.{level_of, refusal_number}
 use Rattle.parts.specs.Table.{part_of}
+use Rattle.std.specs.Prelude.{None, Option, Some}
 use Rattle.serial.specs.declared.write.Write.{Write}
-use Rattle.serial.specs.declared.write.Write.TheVariants.{Nothing, Byte}
 use Rattle.serial.specs.Bits.{bit_at}
-use Rattle.serial.specs.Write.{applied}
+use Rattle.serial.specs.Write.{applied, write_at}
 use Rattle.trace.specs.declared.event.Event.{Event}
 use Rattle.trace.specs.declared.event.Event.TheVariants.{SpiPowerOn, I2cPowerOn, PowerOff, Sample, Expected}
-use Rattle.trace.specs.declared.read.Read.{Read}
-use Rattle.trace.specs.declared.read.Read.TheVariants.{Whole, Refused}
-use Rattle.trace.specs.Read.{event_length, read_of}
+use Rattle.trace.specs.Read.{event_length, read_of, Read, Whole, Refused}
 use Rattle.selection.specs.declared.edge.Edge as SpiEdge
 use Rattle.selection.specs.declared.edge.Edge.TheVariants as SpiEdges
 use Rattle.selection.specs.declared.levels.Levels as SpiLevel
@@ -46,13 +44,11 @@ use Rattle.transfer.specs.Levels as I2cLevels
 use Rattle.i2c.specs.declared.sample.I2c as I2cState
 use Rattle.i2c.specs.Pull as I2cPull
 use Rattle.i2c.specs.Sample as I2cSample
-use Rattle.chip.specs.declared.check.Verdict.{Verdict}
-use Rattle.chip.specs.declared.check.Verdict.TheVariants.{Passed, Failed}
 use Rattle.chip.specs.declared.model.BusState.{BusState}
 use Rattle.chip.specs.declared.model.BusState.TheVariants.{Unpowered, SpiOn, I2cOn}
 use Rattle.chip.specs.declared.model.Model.{Model}
-use Rattle.chip.specs.Check.{check_of}
-use Rattle.events.specs.declared.event.Answered.{Answered}
+use Rattle.chip.specs.Check.{check_of, Verdict, Passed, Failed}
+use Rattle.events.specs.Reply.{Reply}
 use Rattle.events.specs.Event.{Outcome, refused, on_unpowered, spi_sampled, i2c_sampled, on_spi, on_i2c, advance_on, advance_of}
 use Rattle.events.specs.Flag.{flag_from}
 use Rattle.runs.specs.Event as Events
@@ -65,9 +61,9 @@ use Rattle.worked_examples.specs.Cases.{Cell, cell, with_cells}
 -- ---- bytes by address
 
 -- the bytes of a memory of this length after a write
-abbrev pub updated : ℕ → Write → (ℕ → ℕ) → ℕ → ℕ
-updated size Nothing f i = f i
-updated size (Byte a v) f i = cond (eqb i a && ltb a size) v (f i)
+abbrev pub updated : ℕ → Option Write → (ℕ → ℕ) → ℕ → ℕ
+updated size None f i = f i
+updated size (Some w) f i = cond (eqb i w.address && ltb w.address size) w.value (f i)
 
 -- the bytes of a memory
 abbrev pub Reads : List ℕ → (ℕ → ℕ) → Type 0
@@ -86,25 +82,25 @@ set_reads m f a v i h = by (eqb i a) (ltb a (length m)) refl refl
     by true false e l = rw (eqb-true i a e) (past_end m f a v h (ltb-false a (length m) l))
     by false y e l = get_or-set_other m a i v 0 (eqb-false i a e) ∙ h i
 
-write_reads : (size : ℕ) (m : List ℕ) (f : ℕ → ℕ) → length m ≡ size → Reads m f → (w : Write) → Reads (applied w m) (updated size w f)
-write_reads size m f e h Nothing i = h i
-write_reads size m f e h (Byte a v) i = rw (← e) (set_reads m f a v i h)
+write_reads : (size : ℕ) (m : List ℕ) (f : ℕ → ℕ) → length m ≡ size → Reads m f → (w : Option Write) → Reads (applied w m) (updated size w f)
+write_reads size m f e h None i = h i
+write_reads size m f e h (Some w) i = rw (← e) (set_reads m f w.address w.value i h)
 
-write_length : (size : ℕ) (m : List ℕ) → length m ≡ size → (w : Write) → length (applied w m) ≡ size
-write_length size m e Nothing = e
-write_length size m e (Byte a v) = length-set m a v ∙ e
+write_length : (size : ℕ) (m : List ℕ) → length m ≡ size → (w : Option Write) → length (applied w m) ≡ size
+write_length size m e None = e
+write_length size m e (Some w) = length-set m w.address w.value ∙ e
 
 -- a memory with bytes set
 abbrev pub described : ℕ → List Cell → (ℕ → ℕ) → ℕ → ℕ
 described size [] f = f
-described size (k ∷ ks) f = described size ks (updated size (Byte k.address k.value) f)
+described size (k ∷ ks) f = described size ks (updated size (write_at k.address k.value) f)
 
 pub cells_read : (size : ℕ) (m : List ℕ) (f : ℕ → ℕ) (ks : List Cell) → length m ≡ size → Reads m f
     → Reads (with_cells m ks) (described size ks f)
 cells_read size m f [] e h = h
 cells_read size m f (k ∷ ks) e h =
     cells_read size (set m k.address k.value) _ ks (length-set m k.address k.value ∙ e)
-    (write_reads size m f e h (Byte k.address k.value))
+    (write_reads size m f e h (write_at k.address k.value))
 
 pub cells_length : (m : List ℕ) (ks : List Cell) → length (with_cells m ks) ≡ length m
 cells_length m [] = refl
@@ -129,7 +125,7 @@ abbrev spi_by : SpiEdge.Edge → Part → Status → SpiState.Spi → SpiLevel.L
 spi_by SpiEdges.Select p st s l f = SpiSample.step_on SpiEdges.Select p st s l []
 spi_by SpiEdges.Deselect p st s l f = SpiSample.step_on SpiEdges.Deselect p st s l []
 spi_by (SpiEdges.Rise b) p st s l f = SpiSample.step_on (SpiEdges.Rise b) p st s l []
-spi_by SpiEdges.Fall p st s l f = SpiSample.step_to st l s.asleep (fall_by p st f s.phase s.shown) s.phase Nothing
+spi_by SpiEdges.Fall p st s l f = SpiSample.step_to st l s.asleep (fall_by p st f s.phase s.shown) s.phase None
 spi_by SpiEdges.Quiet p st s l f = SpiSample.step_on SpiEdges.Quiet p st s l []
 
 abbrev pull_by : Part → ℕ → (ℕ → ℕ) → I2cPhase.Phase → Bool
@@ -142,7 +138,7 @@ abbrev i2c_by : I2cEdge.Edge → Part → ℕ → I2cState.I2c → I2cLevel.Leve
 i2c_by I2cEdges.Start p pins s l f = I2cSample.step_on I2cEdges.Start p pins s l []
 i2c_by I2cEdges.Stop p pins s l f = I2cSample.step_on I2cEdges.Stop p pins s l []
 i2c_by (I2cEdges.Rise b) p pins s l f = I2cSample.step_on (I2cEdges.Rise b) p pins s l []
-i2c_by I2cEdges.Fall p pins s l f = I2cSample.step_to l (pull_by p pins f s.phase) s.buffer s.phase Nothing
+i2c_by I2cEdges.Fall p pins s l f = I2cSample.step_to l (pull_by p pins f s.phase) s.buffer s.phase None
 i2c_by I2cEdges.Quiet p pins s l f = I2cSample.step_on I2cEdges.Quiet p pins s l []
 
 module _ (m : List ℕ) (f : ℕ → ℕ) (h : Reads m f) where
@@ -164,7 +160,7 @@ module _ (m : List ℕ) (f : ℕ → ℕ) (h : Reads m f) where
   spi_by_lem SpiEdges.Deselect p st s l = refl
   spi_by_lem (SpiEdges.Rise b) p st s l = refl
   spi_by_lem SpiEdges.Fall p st s l =
-      ap (λ (a : Answer). SpiSample.step_to st l s.asleep a s.phase Nothing) (fall_by_lem p st s.phase s.shown)
+      ap (λ (a : Answer). SpiSample.step_to st l s.asleep a s.phase None) (fall_by_lem p st s.phase s.shown)
   spi_by_lem SpiEdges.Quiet p st s l = refl
 
   pull_by_lem : (p : Part) (pins : ℕ) (ph : I2cPhase.Phase) → I2cPull.pulls_after p pins m ph ≡ pull_by p pins f ph
@@ -177,22 +173,22 @@ module _ (m : List ℕ) (f : ℕ → ℕ) (h : Reads m f) where
   i2c_by_lem I2cEdges.Start p pins s l = refl
   i2c_by_lem I2cEdges.Stop p pins s l = refl
   i2c_by_lem (I2cEdges.Rise b) p pins s l = refl
-  i2c_by_lem I2cEdges.Fall p pins s l = ap (λ (z : Bool). I2cSample.step_to l z s.buffer s.phase Nothing) (pull_by_lem p pins s.phase)
+  i2c_by_lem I2cEdges.Fall p pins s l = ap (λ (z : Bool). I2cSample.step_to l z s.buffer s.phase None) (pull_by_lem p pins s.phase)
   i2c_by_lem I2cEdges.Quiet p pins s l = refl
 
 -- ---- one event
 
 -- what an event gives and what it writes
 pub record Done : Type 0 where
-  pub result : Answered
-  pub write : Write
+  pub result : Reply
+  pub write : Option Write
 
 abbrev pub outcome : List ℕ → Done → Outcome
 outcome m d = record { result = d.result; memory = applied d.write m }
 
 -- of an event that writes nothing
-abbrev pub unwritten : Answered → Done
-unwritten r = record { result = r; write = Nothing }
+abbrev pub unwritten : Reply → Done
+unwritten r = record { result = r; write = None }
 
 abbrev spi_done : Model → Bool → SpiSample.Outcome → Done
 spi_done s flag o = record { result = (spi_sampled s [] flag o).result; write = o.write }
@@ -298,11 +294,11 @@ run_from m r =
 abbrev pub stop_by : ℕ → ℕ → List ℕ → Model → Trail
 stop_by n place t s = record { number = n; model = s; count = 0; offset = place; flag = length t; writes = []; answers = [] }
 
-abbrev cells_of : Write → List Cell
-cells_of Nothing = []
-cells_of (Byte a v) = cell a v ∷ []
+abbrev cells_of : Option Write → List Cell
+cells_of None = []
+cells_of (Some w) = cell w.address w.value ∷ []
 
-abbrev after_by : ℕ → Bool → ℕ → Write → Trail → Trail
+abbrev after_by : ℕ → Bool → ℕ → Option Write → Trail → Trail
 after_by a f n w r =
     record {
       number = r.number;
@@ -331,9 +327,9 @@ run_verdict_by (Failed r) quota size t s f = stop_by (refusal_number r) 0 t s
 abbrev pub run_by : ℕ → ℕ → List ℕ → Model → (ℕ → ℕ) → Trail
 run_by quota size t s f = run_verdict_by (check_of s size) quota size t s f
 
-after_by_lem : (a : ℕ) (f : Bool) (n : ℕ) (m : List ℕ) (w : Write) (r : Trail) → after a f n (run_from (applied w m) r) ≡ run_from m (after_by a f n w r)
-after_by_lem a f n m Nothing r = refl
-after_by_lem a f n m (Byte i v) r = refl
+after_by_lem : (a : ℕ) (f : Bool) (n : ℕ) (m : List ℕ) (w : Option Write) (r : Trail) → after a f n (run_from (applied w m) r) ≡ run_from m (after_by a f n w r)
+after_by_lem a f n m None r = refl
+after_by_lem a f n m (Some w) r = refl
 
 -- the run r, on a memory with the bytes f
 abbrev By : ℕ → List ℕ → Model → List ℕ → Run → Type 0

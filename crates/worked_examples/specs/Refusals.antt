@@ -18,7 +18,7 @@ use Rattle.power.specs.Power.{spi_start, i2c_start}
 use Rattle.chip.specs.declared.model.BusState.TheVariants.{SpiOn, I2cOn}
 use Rattle.chip.specs.declared.model.Model.{Model}
 use Rattle.chip.specs.Model.{model_of, unpowered}
-use Rattle.events.specs.declared.event.Answered.{Answered}
+use Rattle.events.specs.Reply.{Reply}
 use Rattle.events.specs.Event.{keeping}
 use Rattle.runs.specs.Event.{event_of}
 use Rattle.runs.specs.Run.{stop_at, run_of}
@@ -43,7 +43,7 @@ abbrev pub bad_field : Model → ℕ → List ℕ → ℕ → ℕ → Refusal
 bad_field s size e n place = record { model = s; size = size; event = e; number = n; place = place }
 
 -- the number, answer 2, no flag and the given state
-abbrev pub answer_to : Refusal → Answered
+abbrev pub answer_to : Refusal → Reply
 answer_to x = record { number = x.number; answer = 2; flag = false; model = x.model }
 
 -- on every memory of the length the event gives these, and the memory as it was

@@ -1,6 +1,2 @@
-// Definitions and theorems only: the worked examples of document 01, computed. A crate needs a function, and this one says nothing.
+// Definitions and theorems only: the worked examples of document 01, computed.
 #![tactic(auto)]
-
-pub fn nothing() -> u8 {
-    0
-}

@@ -1,19 +1,30 @@
--- `write_rolled` meets its contract. The loop's invariant: what is left of the input, written from here on, completes the whole.
--- The measure is what is left of the input. Assumes nothing.
-use mathlib.Core.Path.{sym, ◌∙◌}
-use native.Mathlib.Omega.{arith}
+-- `write_rolled` meets its contract: the first stretch ends at the top or is all, and so is each from 0 on. Assumes nothing.
+use Rattle.std.proofs.Common.{◌∙◌, ℕ, arith, rules, take-append-drop, length-take, length-drop}
+use Rattle.std.proofs.lemmas.Grind.{common_steps}
 use Rattle.rolled_write.proofs.WrittenLaws.{written_on}
 use Rattle.rolled_write.proofs.write_rolled.Goals as goal
 
-pub loop-left-preserved : goal.loop-left-preserved
-loop-left-preserved c =
-    let l = c.loop-left in
+pub loop-stretch-init : goal.loop-stretch-init
+loop-stretch-init c =
     let a = c.args in
-    let n = c.least-count in
-    let w = c.write_stretch in
-    let kept = w.auto.memory in (
-      omega (arith, n.ensures),
-      omega (arith, kept),
-      kept ∙ l.invariant.2,
-      rw w.ensures (sym (written_on a.start l.memory l.to a.input.now l.left n.result l.invariant.1 l.invariant.0 n.ensures) ∙ l.invariant.3),
-    )
+    let first = c.split_at.result.0.now in
+    let rest = c.into_iter-stretch-iterator.result.rest.now in
+    record {
+      some = search rules;
+      size = search rules;
+      whole =
+          written_on a.start a.memory.now c.write_stretch.new.memory a.address a.bytes.now first rest (search rules) (grind (arith, common_steps, take-append-drop))
+          (omega (arith, length-take {A = ℕ}, length-drop {A = ℕ})) c.write_stretch.ensures;
+    }
+
+pub loop-stretch-preserved : goal.loop-stretch-preserved
+loop-stretch-preserved c =
+    let l = c.loop-stretch in
+    let x = c.in-Some in
+    record {
+      some = search rules;
+      size = search rules;
+      whole =
+          written_on c.args.start l.memory _ 0 l.stretch-iterator.rest.now x.stretch.now _ (search rules) x.ensures.steps.1.0 (search rules) c.write_stretch-in-loop-stretch.ensures
+          ∙ l.invariant.whole;
+    }

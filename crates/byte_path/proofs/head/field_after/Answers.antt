@@ -3,7 +3,7 @@ use native.Mathlib.Omega.{arith}
 use Rattle.byte_path.proofs.HeadLaws.{more_below}
 use Rattle.byte_path.proofs.head.field_after.Goals as goal
 
-pub after_field-requires : goal.after_field-requires
-after_field-requires c =
-    let b = c.requires.0 in
-    (b.fit, more_below _ _ _ _ _ b (omega arith), c.requires.1)
+pub phase_after_field-requires : goal.phase_after_field-requires
+phase_after_field-requires c =
+    let b = c.requires in
+    (b.fit, b.inside.field, more_below _ _ _ _ _ b (omega arith))

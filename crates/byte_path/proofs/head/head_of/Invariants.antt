@@ -1,16 +1,11 @@
--- `head_of` meets its contract: the head of what is left, after the bytes taken, is the head of all. The measure is what is left.
--- Assumes nothing.
-use Prim.Native.Nat.{◌-◌, ◌≤◌}
+-- `head_of` meets its contract: the head of what is left, after the bytes taken, is the head of all. Assumes nothing.
 use mathlib.Core.Path.{◌≡◌}
 use mathlib.Core.List.{◌++◌}
-use lib.ListN.{length, drop, replicate}
+use lib.ListN.{drop, replicate}
 use Rattle.byte_path.specs.Head.{ahead, head_from, Bordered}
 use Rattle.byte_path.proofs.head.head_of.Given as goal
 
 abbrev pub invariant-loop-at : goal.invariant-loop-at
 invariant-loop-at l =
-    (l.at ≤ length l.input) × Bordered l.part l.phase × (ahead l.at (head_from l.part l.phase (drop l.at l.input)) ≡ head_from l.part l.initial.phase l.input)
-    × (length l.output ≡ length l.initial.output) × (l.output ≡ replicate l.at 255 ++ drop l.at l.initial.output)
-
-abbrev pub decreases-loop-at : goal.decreases-loop-at
-decreases-loop-at l = length l.input - l.at
+    Bordered l.part l.phase × (ahead l.at (head_from l.part l.phase (drop l.at l.input)) ≡ head_from l.part l.initial.phase l.input)
+    × (l.output ≡ replicate l.at 255 ++ drop l.at l.initial.output)

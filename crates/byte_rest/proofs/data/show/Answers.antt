@@ -1,53 +1,18 @@
--- `show` meets its contract, phase by phase. Assumes nothing.
-use Rattle.byte_rest.proofs.BackLaws.{quiet_over}
+-- `show` meets its contract: where nothing is shown every byte is 255, and none is driven. Assumes nothing.
+use Rattle.std.proofs.Common.{length, sym, arith}
+use Rattle.std.proofs.lemmas.Grind.{common_steps}
+use Rattle.byte_rest.proofs.BackLaws.{quiet_rest, all_quiet, all_quiet_bytes}
 use Rattle.byte_rest.proofs.data.show.Goals as goal
 
-pub returns-in-Rest-clause-count : goal.returns-in-Rest-clause-count
-returns-in-Rest-clause-count c =
-    let q = c.quiet.ensures in
-    rw c.in-Rest.is ((quiet_over c.args.output.now _ c.args.from _ c.requires.2 c.requires.3 q.output q.count)).1
+pub returns-in_default-clause-output : goal.returns-in_default-clause-output
+returns-in_default-clause-output c =
+    let a = c.args in
+    let n = length a.output.now in
+    let filled = c.fill.ensures.after (λ y e. e) in
+    rw (quiet_rest a.part a.status a.memory.now a.phase n c.in_default.not-Showing, all_quiet_bytes n) (grind (arith, common_steps, filled))
 
-pub returns-in-Rest-clause-output : goal.returns-in-Rest-clause-output
-returns-in-Rest-clause-output c =
-    let q = c.quiet.ensures in
-    rw c.in-Rest.is ((quiet_over c.args.output.now _ c.args.from _ c.requires.2 c.requires.3 q.output q.count)).0
-
-pub returns-in-Ignoring-clause-count : goal.returns-in-Ignoring-clause-count
-returns-in-Ignoring-clause-count c =
-    let q = c.quiet-in-Ignoring.ensures in
-    rw c.in-Ignoring.is ((quiet_over c.args.output.now _ c.args.from _ c.requires.2 c.requires.3 q.output q.count)).1
-
-pub returns-in-Ignoring-clause-output : goal.returns-in-Ignoring-clause-output
-returns-in-Ignoring-clause-output c =
-    let q = c.quiet-in-Ignoring.ensures in
-    rw c.in-Ignoring.is ((quiet_over c.args.output.now _ c.args.from _ c.requires.2 c.requires.3 q.output q.count)).0
-
-pub returns-in-Taking-clause-count : goal.returns-in-Taking-clause-count
-returns-in-Taking-clause-count c =
-    let q = c.quiet-in-Taking.ensures in
-    rw c.in-Taking.is ((quiet_over c.args.output.now _ c.args.from _ c.requires.2 c.requires.3 q.output q.count)).1
-
-pub returns-in-Taking-clause-output : goal.returns-in-Taking-clause-output
-returns-in-Taking-clause-output c =
-    let q = c.quiet-in-Taking.ensures in
-    rw c.in-Taking.is ((quiet_over c.args.output.now _ c.args.from _ c.requires.2 c.requires.3 q.output q.count)).0
-
-pub returns-in-Waiting-clause-count : goal.returns-in-Waiting-clause-count
-returns-in-Waiting-clause-count c =
-    let q = c.quiet-in-Waiting.ensures in
-    rw c.in-Waiting.is ((quiet_over c.args.output.now _ c.args.from _ c.requires.2 c.requires.3 q.output q.count)).1
-
-pub returns-in-Waiting-clause-output : goal.returns-in-Waiting-clause-output
-returns-in-Waiting-clause-output c =
-    let q = c.quiet-in-Waiting.ensures in
-    rw c.in-Waiting.is ((quiet_over c.args.output.now _ c.args.from _ c.requires.2 c.requires.3 q.output q.count)).0
-
-pub returns-in-Pending-clause-output : goal.returns-in-Pending-clause-output
-returns-in-Pending-clause-output c =
-    let q = c.quiet-in-Pending.ensures in
-    rw c.in-Pending.is ((quiet_over c.args.output.now _ c.args.from _ c.requires.2 c.requires.3 q.output q.count)).0
-
-pub returns-in-Pending-clause-count : goal.returns-in-Pending-clause-count
-returns-in-Pending-clause-count c =
-    let q = c.quiet-in-Pending.ensures in
-    rw c.in-Pending.is ((quiet_over c.args.output.now _ c.args.from _ c.requires.2 c.requires.3 q.output q.count)).1
+pub returns-in_default-clause-count : goal.returns-in_default-clause-count
+returns-in_default-clause-count c =
+    let a = c.args in
+    let n = length a.output.now in
+    rw (quiet_rest a.part a.status a.memory.now a.phase n c.in_default.not-Showing) (sym (all_quiet n).count)

@@ -8,7 +8,7 @@ early-requires c =
 
 pub rise-requires : goal.rise-requires
 rise-requires c =
-    rise_ready _ _ _ c.args.memory.now c.requires c.early.ensures c.if-phase-early.true
+    rise_ready _ _ _ c.args.memory.now c.requires c.early.ensures c.if-fields-early.true
 
 pub fall-requires : goal.fall-requires
 fall-requires c =
@@ -16,20 +16,20 @@ fall-requires c =
 
 pub returns-in-Select : goal.returns-in-Select
 returns-in-Select c =
-    select _ _ _ _ c.requires c.levels_of-before.ensures c.levels_of-levels.ensures c.flag_of-flag.ensures c.edge_of.ensures c.in-Select.is c.select.ensures c.done.ensures
+    select _ _ _ _ c.requires c.from-before.ensures c.from-levels.ensures c.flag_of-flag.ensures c.edge_of.ensures c.in-Select.is c.select.ensures c.done.ensures
 
-pub returns-then-phase-lt52 : goal.returns-then-phase-lt52
-returns-then-phase-lt52 c =
-    deselect _ _ _ _ c.requires c.levels_of-before.ensures c.levels_of-levels.ensures c.flag_of-flag.ensures c.edge_of.ensures c.in-Deselect.is c.if-phase-lt52.true c.deselect.ensures c.done-then-phase-lt52.ensures
+pub returns-in-Deselect : goal.returns-in-Deselect
+returns-in-Deselect c =
+    deselect _ _ _ _ c.requires c.from-before.ensures c.from-levels.ensures c.flag_of-flag.ensures c.edge_of.ensures c.in-Deselect.is c.if-fields-lt-PENDING.true c.deselect.ensures c.done-in-Deselect.ensures
 
-pub returns-then-phase-early : goal.returns-then-phase-early
-returns-then-phase-early c =
-    rise _ _ _ _ c.requires c.levels_of-before.ensures c.levels_of-levels.ensures c.flag_of-flag.ensures c.edge_of.ensures c.in-Rise.is c.early.ensures c.if-phase-early.true c.rise.ensures c.done-then-phase-early.ensures
+pub returns-in-Rise : goal.returns-in-Rise
+returns-in-Rise c =
+    rise _ _ _ _ c.requires c.from-before.ensures c.from-levels.ensures c.flag_of-flag.ensures c.edge_of.ensures c.in-Rise.is c.early.ensures c.if-fields-early.true c.rise.ensures c.done-in-Rise.ensures
 
 pub returns-in-Fall : goal.returns-in-Fall
 returns-in-Fall c =
-    fall _ _ _ _ c.requires c.levels_of-before.ensures c.levels_of-levels.ensures c.flag_of-flag.ensures c.edge_of.ensures c.in-Fall.is c.fall.ensures c.done-in-Fall.ensures
+    fall _ _ _ _ c.requires c.from-before.ensures c.from-levels.ensures c.flag_of-flag.ensures c.edge_of.ensures c.in-Fall.is c.fall.ensures c.done-in-Fall.ensures
 
 pub returns-in-Quiet : goal.returns-in-Quiet
 returns-in-Quiet c =
-    quiet _ _ _ _ c.requires c.levels_of-before.ensures c.levels_of-levels.ensures c.flag_of-flag.ensures c.edge_of.ensures c.in-Quiet.is c.moved-same.ensures c.done-in-Quiet.ensures
+    quiet _ _ _ _ c.requires c.from-before.ensures c.from-levels.ensures c.flag_of-flag.ensures c.edge_of.ensures c.in-Quiet.is c.quiet.ensures c.done-in-Quiet.ensures

@@ -11,10 +11,10 @@ use Rattle.runs.specs.Run.{ran_of, loop_of}
 use Rattle.runs.proofs.RunLaws.{final, final_of}
 use Rattle.runs.proofs.run.replay_checked.Given as goal
 
-abbrev pub invariant-loop-count : goal.invariant-loop-count
-invariant-loop-count l =
-    (l.count ≤ l.quota) × (l.at ≤ length l.trace) × Sound l.state l.memory × (l.part ≡ part_of l.state.part) × (length l.memory ≡ length l.initial.memory) × (length l.answers ≡ length l.initial.answers)
-    × (final (length l.trace) l.flag l.count l.at l.answers (loop_of (l.quota - l.count) (drop l.at l.trace) l.state l.memory) ≡ final_of (ran_of (loop_of l.quota l.trace l.initial.state l.initial.memory)) (loop_of l.quota l.trace l.initial.state l.initial.memory).memory (sets l.initial.answers 0 (loop_of l.quota l.trace l.initial.state l.initial.memory).answers))
+abbrev pub invariant-loop-at : goal.invariant-loop-at
+invariant-loop-at l =
+    (l.at.count ≤ l.quota) × (l.at.offset ≤ length l.trace) × Sound l.at.model l.memory × (l.part ≡ part_of l.at.model.part) × (length l.memory ≡ length l.initial.memory) × (length l.answers ≡ length l.initial.answers)
+    × (final (length l.trace) l.at.flag l.at.count l.at.offset l.answers (loop_of (l.quota - l.at.count) (drop l.at.offset l.trace) l.at.model l.memory) ≡ final_of (ran_of (loop_of l.quota l.trace l.initial.at.model l.initial.memory)) (loop_of l.quota l.trace l.initial.at.model l.initial.memory).memory (sets l.initial.answers 0 (loop_of l.quota l.trace l.initial.at.model l.initial.memory).answers))
 
-abbrev pub decreases-loop-count : goal.decreases-loop-count
-decreases-loop-count l = l.quota - l.count
+abbrev pub decreases-loop-at : goal.decreases-loop-at
+decreases-loop-at l = l.quota - l.at.count

@@ -1,2 +1,0 @@
-pub mod ResultLaws
-pub mod OpenLaws
