@@ -1,10 +1,8 @@
--- `consecutive` meets its contract. The loop's invariant: the bus fits the part, the end is where quota or trace stop, the present answer is that of the bus, and what is left of the samples from its state leads to what all of them
+-- `consecutive` meets its contract. The loop's invariant: the bus fits the part, the end is where quota or trace stop, and what is left of the samples from its state leads to what all of them
 -- give. Assumes nothing.
 use mathlib.Core.Path.{◌≡◌}
 use Prim.Native.Nat.{◌-◌}
 use lib.ListN.{length, drop}
-use Rattle.parts.specs.Numbers.{answer_number}
-use Rattle.samples.specs.Kept.{present}
 use Rattle.samples.specs.Samples.{samples_of}
 use Rattle.samples.proofs.BoundLaws.{Bound}
 use Rattle.samples.proofs.SamplesLaws.{end, Going}
@@ -14,7 +12,6 @@ abbrev pub invariant-loop-part : goal.invariant-loop-part
 invariant-loop-part g l =
     let b = g.B.Kept in
     b.fits l.fn.part l.bus × Bound (length l.fn.trace) l.fn.quota l.count l.offset l.end
-    × (answer_number l.present ≡ present (b.state l.bus).bus)
     × Going l.fn.trace l.fn.quota (end (length l.fn.trace) l.fn.from.flag l.fn.from.count l.fn.from.offset l.fn.answers (samples_of (l.fn.quota - l.fn.from.count) (drop l.fn.from.offset l.fn.trace) l.fn.from.model l.fn.memory)) (b.state l.bus) l.flag l.count l.offset l.memory l.answers
 
 abbrev pub decreases-loop-part : goal.decreases-loop-part
