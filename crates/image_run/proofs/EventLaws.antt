@@ -1,9 +1,10 @@
--- One event on an image that is taken: by its fields, or on the state that it reads as. Assumes nothing.
+-- One event on an image that is taken: by its fields, without bytes, or on the state that it reads as. Assumes nothing.
 use Prim.Native.Nat.{ℕ, ◌<◌}
 use mathlib.Core.Path.{◌≡◌, refl, sym, ap, ◌∙◌}
-use mathlib.Core.Bool.{true}
+use mathlib.Core.Bool.{true, false}
 use mathlib.Core.List.{List}
 use Rattle.std.specs.Prelude.{Option, Some}
+use lib.ListN.{length}
 use Rattle.parts.specs.declared.answer.Answer.{Answer}
 use Rattle.parts.specs.Numbers.{answer_number, answer_in}
 use Rattle.parts.proofs.NumberLaws.{answer_numbered}
@@ -12,7 +13,7 @@ use Rattle.chip.specs.Check.{Sound}
 use Rattle.events.specs.Reply.{Reply}
 use Rattle.events.specs.Event.{Outcome}
 use Rattle.runs.specs.Event.{checked_event, event_of}
-use Rattle.runs.proofs.OneLaws.{answer_below}
+use Rattle.runs.proofs.OneLaws.{answer_below, nothing_read}
 use Rattle.image.specs.Layout.{spelled}
 use Rattle.image.specs.Taken.{image_of, state_of, in_range, taken, Bytes}
 use Rattle.image.proofs.TakenLaws.{encode_decode, taken_passes}
@@ -48,6 +49,11 @@ module _ (b t m : List ℕ) (h : taken b ≡ true) (sound : Sound (state_of b) m
       by : (o : Outcome) → r ≡ stepped_by o → o.memory ≡ m → o.result.number ≡ 0 → answer_number (answer_in o.result.answer) ≡ o.result.answer
           → (◌≡◌ {A = EventTold} (record { number = 0; answer = answer_number a; flag = r.flag }) (told_by o)) × (spelled r.fields ≡ image_of o.result.model) × (m ≡ o.memory)
       by o e k n named = (rw (n, ea, e, named), rw e, sym k)
+
+  -- ---- without bytes
+
+  pub empty_gave : Bytes b → length t ≡ 0 → Gave b t m (record { number = 5; answer = 2; flag = false }) b m
+  empty_gave bytes e = rw (passed, nothing_read (state_of b) m t sound e) (refl, sym (encode_decode b bytes h), refl)
 
   -- ---- on the state that it reads as
 

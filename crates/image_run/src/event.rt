@@ -24,6 +24,10 @@ fn on_state(state: &mut [u8], event: &[u8], memory: &mut [u8]) -> Result<Told, R
     ensures state { state.new ≡ image_of (event_of (state_of state.old) memory.old event.now).result.model }
     ensures memory { memory.new ≡ (event_of (state_of state.old) memory.old event.now).memory }
 {
+    // asked here too, before the state is made: an event without bytes is refused in half the instructions
+    if event.is_empty() {
+        return Err(Refusal::Truncated);
+    }
     let model = image::taken::state_of(state);
     let answered = runs::one::checked_event(model, event, memory)?;
     image::taken::put_image(state, answered.model);
