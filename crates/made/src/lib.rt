@@ -9,7 +9,7 @@ ghost use Rattle.made.specs.MadeRun.{made_run};
 
 use runs::run::Ran;
 
-// If the making is refused nothing is run: its refusal and the model that stands for it come back, with count and offset 0 and no flag.
+// If the making is refused nothing is run: its refusal and the model that comes with it come back, with count and offset 0 and no flag.
 #[tactic(auto, unfolding(crate::specs::MadeRun::made_run))]
 pub fn replay_made(
     part: u32,
@@ -24,8 +24,9 @@ pub fn replay_made(
     ensures memory { memory.new ≡ (made_run part pins bits quota trace.now memory.old).memory }
     ensures answers { answers.new ≡ sets answers.old 0 (made_run part pins bits quota trace.now memory.old).answers }
 {
-    match model::make::make(part, pins, bits) {
-        Ok(model) => model::run::replay(model, trace, quota, memory, answers),
-        Err(refusal) => runs::run::refused(refusal, model::make::unmade(), trace.len()),
+    let made = model::make::make(part, pins, bits);
+    match made.refusal {
+        None => model::run::replay(made.model, trace, quota, memory, answers),
+        Some(refusal) => runs::run::refused(refusal, made.model, trace.len()),
     }
 }

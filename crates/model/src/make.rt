@@ -10,6 +10,13 @@ use parts::part::{PARTS, Part};
 use parts::refusal::Refusal;
 use parts::status::Status;
 
+// Why a making is refused, if it is, and the model: one comes back in any case.
+#[derive(Clone, Copy, Debug, PartialEq, Eq)]
+pub struct Making {
+    pub refusal: Option<Refusal>,
+    pub model: Model,
+}
+
 // The register that holds saved bits.
 fn status_of(bits: u32) -> Status
     ensures { result ≡ status_of bits }
@@ -36,18 +43,24 @@ fn make_in(part: u32, pins: u32, bits: u32) -> bool
     (part as usize) < PARTS.len() && settings_in(parts::part::part_of(part as usize), pins, bits)
 }
 
-// A model without power, or 1.
+// A model without power, or 1 with the model of part 0.
 #[tactic(auto, unfolding(crate::specs::Make::make_of))]
-pub fn make(part: u32, pins: u32, bits: u32) -> Result<Model, Refusal>
+pub fn make(part: u32, pins: u32, bits: u32) -> Making
     ensures { made_of result ≡ make_of part pins bits }
 {
     if !make_in(part, pins, bits) {
-        return Err(Refusal::ModelRange);
+        return Making {
+            refusal: Some(Refusal::ModelRange),
+            model: unmade(),
+        };
     }
-    Ok(chip::model::unpowered(part, pins, status_of(bits)))
+    Making {
+        refusal: None,
+        model: chip::model::unpowered(part, pins, status_of(bits)),
+    }
 }
 
-// The model that stands for a refused making where one has to come back: part 0.
+// The model that stands for a refused making: part 0.
 pub fn unmade() -> Model
     ensures { result ≡ unpowered 0 0 cleared }
 {

@@ -15,6 +15,10 @@ cleared = record { srwd = false; bp1 = false; bp0 = false; wel = false }
 abbrev pub status_byte : Status → ℕ
 status_byte s = 128 * bit s.srwd + 8 * bit s.bp1 + 4 * bit s.bp0 + 2 * bit s.wel
 
+-- BP1 BP0 as a number
+abbrev pub block_bits : Status → ℕ
+block_bits s = 2 * bit s.bp1 + bit s.bp0
+
 -- how much of a memory is protected, by BP1, BP0 and its size: nothing, the top quarter, the top half, all
 abbrev pub protected_bytes : Bool → Bool → ℕ → ℕ
 protected_bytes false false size = 0

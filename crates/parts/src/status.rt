@@ -1,6 +1,6 @@
 // The status register of an SPI part.
-ghost use Rattle.std.specs.Prelude.{◌≡◌};
-ghost use Rattle.parts.specs.Status.{status_byte, status_in, protected_start, with_wel};
+ghost use Rattle.std.specs.Prelude.{◌≡◌, ◌<◌};
+ghost use Rattle.parts.specs.Status.{status_byte, status_in, block_bits, protected_start, with_wel};
 
 use crate::part::Part;
 
@@ -31,6 +31,13 @@ impl Status {
             + 8 * u8::from(self.bp1)
             + 4 * u8::from(self.bp0)
             + 2 * u8::from(self.wel)
+    }
+
+    // BP1 BP0 as a number.
+    pub fn block_bits(self) -> u8
+        ensures { (result ≡ block_bits self) × (result < 4) }
+    {
+        2 * u8::from(self.bp1) + u8::from(self.bp0)
     }
 
     // The first protected address, or the size if none is protected: by BP1 BP0 nothing, the top quarter, the top half, all.

@@ -13,11 +13,12 @@ pub extern "C" fn sildrokk_make(part: u32, pins: u32, bits: u32, state: &mut [u8
     ensures number { result ≡ (make_call part pins bits state.old).number }
     ensures state { state.new ≡ (make_call part pins bits state.old).state }
 {
-    match model::make::make(part, pins, bits) {
-        Err(refusal) => refusal.number(),
-        Ok(_) if state.len() != 32 => Refusal::StateRange.number(),
-        Ok(model) => {
-            image::taken::put_image(state, model);
+    let made = model::make::make(part, pins, bits);
+    match made.refusal {
+        Some(refusal) => refusal.number(),
+        None if state.len() != 32 => Refusal::StateRange.number(),
+        None => {
+            image::taken::put_image(state, made.model);
             0
         }
     }
