@@ -86,7 +86,7 @@ fn under_power(part: Part, model: Model, present: Answer, event: Event) -> Resul
         Event::SpiPowerOn { .. } | Event::I2cPowerOn { .. } => Err(Refusal::Powered),
         Event::PowerOff => Ok(power_off(part, model)),
         Event::Expected { answer } => expect(model, present, answer),
-        // those under power are taken in the loops of `spi_samples` and `i2c_samples`
+        // those under power are taken in the loop of `samples`
         Event::Sample { .. } => unreachable!(),
     }
 }
