@@ -1,6 +1,5 @@
 -- `consecutive` meets its contract. The loop's invariant: the bus fits the part, the end is where quota or trace stop, and what is left of the samples from its state leads to what all of them
 -- give. Assumes nothing.
-use mathlib.Core.Path.{◌≡◌}
 use Prim.Native.Nat.{◌-◌}
 use lib.ListN.{length, drop}
 use Rattle.samples.specs.Samples.{samples_of}
